@@ -1,0 +1,5 @@
+// Plain lengths: whole numbers.
+
+// A length that is a whole number.
+#[derive(Clone, Copy, PartialEq, Eq, Debug)]
+pub struct Plain(pub u32);
