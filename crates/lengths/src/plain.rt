@@ -1,5 +1,5 @@
 // Plain lengths: whole numbers.
 
 // A length that is a whole number.
-#[derive(Clone, Copy, PartialEq, Eq, Debug)]
+#[derive(Clone, Copy)]
 pub struct Plain(pub u32);

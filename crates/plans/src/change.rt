@@ -1,7 +1,7 @@
 // The four changes of a floorplan.
 
 // One change, with the modules that it names.
-#[derive(Clone, Copy, PartialEq, Eq, Debug)]
+#[derive(Clone, Copy)]
 pub enum Change {
     // exchanges the two sides of a module
     Rotate(usize),

@@ -1,0 +1,19 @@
+-- What every crate above is proved against, a file for each idea.
+pub mod Numbers
+pub mod Search
+pub mod Tables
+pub mod Published
+pub mod Sequences
+pub mod Tests
+pub mod Changes
+pub mod Transposed
+pub mod SequencePairs
+pub mod Kinds
+pub mod Axes
+pub mod Packing
+pub mod PackingCalls
+pub mod Placements
+pub mod Model
+pub mod Runs
+pub mod Shortcuts
+pub mod Worked

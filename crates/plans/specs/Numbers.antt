@@ -1,0 +1,70 @@
+-- The number of each refusal.
+use Prim.Native.Nat.{ℕ}
+use Rattle.plans.specs.declared.refusals.LoadRefusal.{LoadRefusal}
+use Rattle.plans.specs.declared.refusals.LoadRefusal.the-variants.{WrongShape, WrongCode, SelfRelated, NotOneEdge, NotClosed, WrongPlace, Backwards}
+use Rattle.plans.specs.declared.refusals.ChangeRefusal.{ChangeRefusal}
+use Rattle.plans.specs.declared.refusals.ChangeRefusal.the-variants.{NoModule, SameModule, NoEdge, NoReductionEdge}
+use Rattle.plans.specs.declared.refusals.PlanLoadRefusal.{PlanLoadRefusal}
+use Rattle.plans.specs.declared.refusals.PlanLoadRefusal.the-variants as load
+use Rattle.plans.specs.declared.refusals.PlanChangeRefusal.{PlanChangeRefusal}
+use Rattle.plans.specs.declared.refusals.PlanChangeRefusal.the-variants as change
+use Rattle.plans.specs.declared.refusals.TrialRefusal.{TrialRefusal}
+use Rattle.plans.specs.declared.refusals.TrialRefusal.the-variants.{NoTrial}
+use Rattle.plans.specs.declared.pack_refusals.PackRefusal.{PackRefusal}
+use Rattle.plans.specs.declared.pack_refusals.PackRefusal.the-variants.{WrongSides, ShortResults, WrongSide}
+use Rattle.plans.specs.declared.pack_refusals.PinnedRefusal.{PinnedRefusal}
+use Rattle.plans.specs.declared.pack_refusals.PinnedRefusal.the-variants as pinned
+use Rattle.plans.specs.declared.pack_refusals.RotationRefusal.{RotationRefusal}
+use Rattle.plans.specs.declared.pack_refusals.RotationRefusal.the-variants as rotation
+use Rattle.plans.specs.declared.pack_refusals.LengthRefusal.{LengthRefusal}
+use Rattle.plans.specs.declared.pack_refusals.LengthRefusal.the-variants.{WrongCount}
+
+-- 10 to 16: a representation refuses a load
+abbrev pub numberOfLoad : LoadRefusal → ℕ
+numberOfLoad WrongShape = 10
+numberOfLoad (WrongCode i j) = 11
+numberOfLoad (SelfRelated i j) = 12
+numberOfLoad (NotOneEdge i j) = 13
+numberOfLoad (NotClosed i j) = 14
+numberOfLoad (WrongPlace k) = 15
+numberOfLoad (Backwards i j) = 16
+
+-- 21 to 24: a representation refuses a change
+abbrev pub numberOfChange : ChangeRefusal → ℕ
+numberOfChange NoModule = 21
+numberOfChange SameModule = 22
+numberOfChange NoEdge = 23
+numberOfChange NoReductionEdge = 24
+
+-- 20: a plan refuses a load or a change since a trial is open
+abbrev pub numberOfPlanLoad : PlanLoadRefusal → ℕ
+numberOfPlanLoad load.TrialOpen = 20
+numberOfPlanLoad (load.Refused e) = numberOfLoad e
+
+abbrev pub numberOfPlanChange : PlanChangeRefusal → ℕ
+numberOfPlanChange change.TrialOpen = 20
+numberOfPlanChange (change.Refused e) = numberOfChange e
+
+-- 30: there is no trial to end
+abbrev pub numberOfTrial : TrialRefusal → ℕ
+numberOfTrial NoTrial = 30
+
+-- 40 to 45: a packing is refused
+abbrev pub numberOfPack : PackRefusal → ℕ
+numberOfPack WrongSides = 40
+numberOfPack ShortResults = 41
+numberOfPack (WrongSide i) = 42
+
+abbrev pub numberOfPinned : PinnedRefusal → ℕ
+numberOfPinned (pinned.Packing e) = numberOfPack e
+numberOfPinned pinned.NoModule = 43
+numberOfPinned pinned.FarPin = 44
+numberOfPinned pinned.NoPlace = 45
+
+abbrev pub numberOfRotation : RotationRefusal → ℕ
+numberOfRotation (rotation.Packing e) = numberOfPack e
+numberOfRotation rotation.NoModule = 43
+
+-- 50: a counted length can't be made
+abbrev pub numberOfLength : LengthRefusal → ℕ
+numberOfLength WrongCount = 50
