@@ -1,6 +1,7 @@
 -- What every crate above is proved against, a file for each idea.
 pub mod Numbers
 pub mod Search
+pub mod First
 pub mod Tables
 pub mod Published
 pub mod Sequences

@@ -1,0 +1,3 @@
+-- The mathematics, a file for each subject.
+pub mod Searches
+pub mod TableLists
