@@ -6,6 +6,8 @@ pub mod Tables
 pub mod Published
 pub mod Sequences
 pub mod Tests
+pub mod FirstRefusals
+pub mod LoadLaw
 pub mod Changes
 pub mod Transposed
 pub mod SequencePairs

@@ -1,5 +1,6 @@
 -- The number of each refusal.
 use Prim.Native.Nat.{ℕ}
+use mathlib.Core.List.{List, [], _∷_}
 use Rattle.plans.specs.declared.refusals.LoadRefusal.{LoadRefusal}
 use Rattle.plans.specs.declared.refusals.LoadRefusal.the-variants.{WrongShape, WrongCode, SelfRelated, NotOneEdge, NotClosed, WrongPlace, Backwards}
 use Rattle.plans.specs.declared.refusals.ChangeRefusal.{ChangeRefusal}
@@ -68,3 +69,33 @@ numberOfRotation rotation.NoModule = 43
 -- 50: a counted length can't be made
 abbrev pub numberOfLength : LengthRefusal → ℕ
 numberOfLength WrongCount = 50
+
+-- what each refusal of a load tells: a pair of modules, or a place of the sequence
+abbrev pub toldByLoad : LoadRefusal → List ℕ
+toldByLoad WrongShape = []
+toldByLoad (WrongCode i j) = i ∷ j ∷ []
+toldByLoad (SelfRelated i j) = i ∷ j ∷ []
+toldByLoad (NotOneEdge i j) = i ∷ j ∷ []
+toldByLoad (NotClosed i j) = i ∷ j ∷ []
+toldByLoad (WrongPlace k) = k ∷ []
+toldByLoad (Backwards i j) = i ∷ j ∷ []
+
+-- a refused change tells nothing more
+abbrev pub toldByChange : ChangeRefusal → List ℕ
+toldByChange e = []
+
+-- what each refusal of a packing tells: the module with a side that is not possible
+abbrev pub toldByPack : PackRefusal → List ℕ
+toldByPack WrongSides = []
+toldByPack ShortResults = []
+toldByPack (WrongSide i) = i ∷ []
+
+abbrev pub toldByPinned : PinnedRefusal → List ℕ
+toldByPinned (pinned.Packing e) = toldByPack e
+toldByPinned pinned.NoModule = []
+toldByPinned pinned.FarPin = []
+toldByPinned pinned.NoPlace = []
+
+abbrev pub toldByRotation : RotationRefusal → List ℕ
+toldByRotation (rotation.Packing e) = toldByPack e
+toldByRotation rotation.NoModule = []

@@ -52,8 +52,10 @@ pub record Published (p : Floorplan) : Type 0 where
   pub connected : (i j : ℕ) → i < p .size → j < p .size → i ≢ j → edgesBetween (tableIn p) i j ≡ 1
   -- the transitive closure of each graph is the graph itself
   pub closure : (g : ℕ) → 0 < g → OwnClosure (tableIn p) g
-  -- the sequence lists each module once
-  pub listed : (length (p .sequence) ≡ p .size) × ((i : ℕ) → i < p .size → timesIn (p .sequence) i ≡ 1)
+  -- the sequence lists modules, each once
+  pub long : length (p .sequence) ≡ p .size
+  pub modules : (k : ℕ) → k < p .size → getD (p .sequence) k 0 < p .size
+  pub once : (i : ℕ) → i < p .size → timesIn (p .sequence) i ≡ 1
   -- and is a topological order of both graphs
   pub topological : (i j : ℕ) → 0 < tableIn p i j → Precedes (p .sequence) i j
 

@@ -6,8 +6,7 @@ use lib.Dec.{eqb, ltb, leb}
 use lib.ListN.{length, getD}
 use Rattle.std.specs.Options.{mapped}
 use Rattle.std.specs.declared.option.Option.{Option}
-use Rattle.std.specs.declared.option.Option.the-variants.{Some, None}
-use Rattle.plans.specs.Search.{firstBelow, firstPair, someBelow, orElse, placeOf}
+use Rattle.plans.specs.Search.{firstBelow, firstPair, someBelow, orElse, refusing, placeOf}
 use Rattle.plans.specs.Tables.{Table, tableOf}
 use Rattle.plans.specs.declared.refusals.LoadRefusal.{LoadRefusal}
 use Rattle.plans.specs.declared.refusals.LoadRefusal.the-variants.{WrongShape, WrongCode, SelfRelated, NotOneEdge, NotClosed, WrongPlace, Backwards}
@@ -49,7 +48,7 @@ tellingPair refusal pair = mapped (λ q. refusal (q .0) (q .1)) pair
 abbrev pub tableRefusal : (limit greatest m : ℕ) → List ℕ → Option LoadRefusal
 tableRefusal limit greatest m codes =
     let c = tableOf m codes in
-    cond (misshapen limit m codes) (Some WrongShape)
+    orElse (refusing (misshapen limit m codes) WrongShape)
     (orElse (tellingPair WrongCode (firstPair m (codeWrong greatest c)))
     (orElse (tellingPair SelfRelated (firstPair m (selfRelated c)))
     (orElse (tellingPair NotOneEdge (firstPair m (notOneEdge c)))
