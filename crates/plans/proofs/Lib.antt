@@ -1,3 +1,5 @@
 -- The mathematics, a file for each subject.
 pub mod Searches
 pub mod TableLists
+pub mod Pigeonhole
+pub mod Orders
