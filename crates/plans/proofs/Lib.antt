@@ -1,5 +1,7 @@
 -- The mathematics, a file for each subject.
 pub mod Searches
 pub mod TableLists
+pub mod Pigeonhole
+pub mod Orders
 pub mod FirstRefusals
 pub mod LoadFirst

@@ -5,6 +5,7 @@ pub mod First
 pub mod Tables
 pub mod Published
 pub mod Sequences
+pub mod Orders
 pub mod Tests
 pub mod FirstRefusals
 pub mod LoadLaw
