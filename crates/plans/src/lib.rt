@@ -3,6 +3,7 @@ mod change;
 mod measures;
 mod pack_refusals;
 mod refusals;
+mod theorems;
 mod worked;
 
 pub use change::Change;
@@ -18,4 +19,5 @@ pub use refusals::LoadRefusal;
 pub use refusals::PlanChangeRefusal;
 pub use refusals::PlanLoadRefusal;
 pub use refusals::TrialRefusal;
+pub use theorems::load_law;
 pub use worked::worked_plans;
