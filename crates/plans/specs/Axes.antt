@@ -65,7 +65,7 @@ module _ {L : Type 0} (K : Kind L) where
     abbrev pub Inside : (ℕ → L) → Type 0
     Inside e = (i : ℕ) → i < x .size → x .takes i (e i) ≤ sumLimit
 
-    -- near edges that keep the relations, each at most that of any others which do
+    -- near edges that keep the relations, each at most that of any others within the limit which do
     pub record LeastAlong (e : ℕ → L) : Type 0 where
       pub keeps : Keeps e
       pub least : (other : ℕ → L) → Keeps other → Inside other → (i : ℕ) → i < x .size → AtMost K (e i) (other i)

@@ -4,6 +4,10 @@ use mathlib.Core.Path.{_≡_}
 use mathlib.Core.Bool.{Bool, true, false, cond, _&&_, _||_}
 use mathlib.Core.Logic.{_⊎_}
 use lib.Dec.{eqb, leb, ltb}
+use Rattle.std.specs.declared.result.Result.{Result}
+use Rattle.std.specs.declared.result.Result.the-variants.{Ok, Err}
+use Rattle.plans.specs.declared.pack_refusals.LengthRefusal.{LengthRefusal}
+use Rattle.plans.specs.declared.pack_refusals.LengthRefusal.the-variants.{WrongCount}
 
 -- a kind of length by its operations: a zero, the sum, the later of two, "at most", and the extent
 pub record Kind (L : Type 0) : Type 0 where
@@ -79,7 +83,7 @@ plainKind =
       reach = λ a. a;
     }
 
--- a whole number with its number of module borders
+-- a whole number with its number of module borders, which the making keeps at or below the number
 pub record Count : Type 0 where
   pub long : ℕ
   pub borders : ℕ
@@ -102,3 +106,8 @@ countedKind =
 -- what can't be made a counted length: more borders than length, or too long
 abbrev pub countRefused : ℕ → ℕ → Bool
 countRefused long borders = ltb long borders || ltb sumLimit long
+
+-- what making a counted length gives: its refusal, or the length
+abbrev pub after-count : ℕ → ℕ → Result Count LengthRefusal
+after-count long borders =
+    cond (countRefused long borders) (Err WrongCount) (Ok (record { long = long; borders = borders }))

@@ -50,7 +50,8 @@ rotatedAfter r (Swap a b) = r
 rotatedAfter r (Reverse a b) = r
 rotatedAfter r (MoveEdge a b) = r
 
--- a call's answer with the state after it
+-- a call's answer with the state after it; the decision that a done change hands out, and that keep and undo spend,
+-- is a token beside the plan and no part of the model
 pub record Step (E : Type 0) : Type 0 where
   pub state : State
   pub answer : Result (Unit {0}) E
@@ -59,6 +60,7 @@ pub record Step (E : Type 0) : Type 0 where
 abbrev pub refused : {E : Type 0} → State → E → Step E
 refused s e = record { state = s; answer = Err e }
 
+-- an accepted call
 abbrev pub done : {E : Type 0} → State → Step E
 done s = record { state = s; answer = Ok tt }
 

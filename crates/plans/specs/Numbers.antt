@@ -1,4 +1,4 @@
--- The number of each refusal.
+-- The number of each refusal, and what each tells.
 use Prim.Native.Nat.{ℕ}
 use mathlib.Core.List.{List, [], _∷_}
 use Rattle.plans.specs.declared.refusals.LoadRefusal.{LoadRefusal}
@@ -42,6 +42,7 @@ abbrev pub numberOfPlanLoad : PlanLoadRefusal → ℕ
 numberOfPlanLoad load.TrialOpen = 20
 numberOfPlanLoad (load.Refused e) = numberOfLoad e
 
+-- the same for a change
 abbrev pub numberOfPlanChange : PlanChangeRefusal → ℕ
 numberOfPlanChange change.TrialOpen = 20
 numberOfPlanChange (change.Refused e) = numberOfChange e
@@ -56,12 +57,14 @@ numberOfPack WrongSides = 40
 numberOfPack ShortResults = 41
 numberOfPack (WrongSide i) = 42
 
+-- the same with a module pinned
 abbrev pub numberOfPinned : PinnedRefusal → ℕ
 numberOfPinned (pinned.Packing e) = numberOfPack e
 numberOfPinned pinned.NoModule = 43
 numberOfPinned pinned.FarPin = 44
 numberOfPinned pinned.NoPlace = 45
 
+-- the same with a module rotated once more
 abbrev pub numberOfRotation : RotationRefusal → ℕ
 numberOfRotation (rotation.Packing e) = numberOfPack e
 numberOfRotation rotation.NoModule = 43
@@ -90,12 +93,31 @@ toldByPack WrongSides = []
 toldByPack ShortResults = []
 toldByPack (WrongSide i) = i ∷ []
 
+-- the same with a module pinned
 abbrev pub toldByPinned : PinnedRefusal → List ℕ
 toldByPinned (pinned.Packing e) = toldByPack e
 toldByPinned pinned.NoModule = []
 toldByPinned pinned.FarPin = []
 toldByPinned pinned.NoPlace = []
 
+-- the same with a module rotated once more
 abbrev pub toldByRotation : RotationRefusal → List ℕ
 toldByRotation (rotation.Packing e) = toldByPack e
 toldByRotation rotation.NoModule = []
+
+-- what a plan's refusals tell: those of its representation
+abbrev pub toldByPlanLoad : PlanLoadRefusal → List ℕ
+toldByPlanLoad load.TrialOpen = []
+toldByPlanLoad (load.Refused e) = toldByLoad e
+
+-- the same for a change
+abbrev pub toldByPlanChange : PlanChangeRefusal → List ℕ
+toldByPlanChange change.TrialOpen = []
+toldByPlanChange (change.Refused e) = toldByChange e
+
+-- no trial to end tells nothing more, nor does a length that can't be made
+abbrev pub toldByTrial : TrialRefusal → List ℕ
+toldByTrial e = []
+
+abbrev pub toldByLength : LengthRefusal → List ℕ
+toldByLength e = []

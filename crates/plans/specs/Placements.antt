@@ -42,14 +42,14 @@ module _ {L : Type 0} (K : Kind L) (t : Task L) where
     pub area : chipOf K t (e .across) (e .up) .area ≤ chipOf K t (other .across) (other .up) .area
 
   -- a placement that keeps the relations and the pins, in which no two modules overlap, and which is no later
-  -- than any other that keeps them
+  -- than any other within the limit that keeps them
   pub record LeastPlacement (pins : Pins L) (e : Placement L) : Type 0 where
     pub keeps : KeepsPlan pins e
     pub inside : InsidePlan pins e
     pub separate : (i j : ℕ) → i < t .plan .size → j < t .plan .size → i ≢ j → Overlap e i j → ⊥
     pub least : (other : Placement L) → KeepsPlan pins other → InsidePlan pins other → NoLater e other
 
-  -- no placement keeps the relations and the pins
+  -- no placement within the limit keeps the relations and the pins
   abbrev pub NoPlacement : Pins L → Type 0
   NoPlacement pins = (e : Placement L) → KeepsPlan pins e → InsidePlan pins e → ⊥
 

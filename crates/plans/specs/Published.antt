@@ -21,7 +21,8 @@ pub data Path (c : Table) (g : ℕ) : ℕ → ℕ → Type 0 where
 abbrev pub Acyclic : Table → ℕ → Type 0
 Acyclic c g = (i : ℕ) → Path c g i i → ⊥
 
--- the transitive closure has an edge wherever there is a path; the graph is its own closure
+-- the transitive closure has an edge wherever there is a path; the graph equals it when it has each of these
+-- edges too, since each edge is a path
 abbrev pub OwnClosure : Table → ℕ → Type 0
 OwnClosure c g = (i j : ℕ) → Path c g i j → Edge c g i j
 
@@ -41,7 +42,7 @@ timesIn (x ∷ xs) i = cond (eqb x i) 1 0 + timesIn xs i
 abbrev pub Precedes : List ℕ → ℕ → ℕ → Type 0
 Precedes s i j = (k : ℕ) × (l : ℕ) × (k < l) × (l < length s) × (getD s k 0 ≡ i) × (getD s l 0 ≡ j)
 
--- what the definition admits, of at most 64 modules with one code 0, 1 or 2 for each two
+-- what the definition admits, of at most 64 modules with one code 0, 1 or 2 for each ordered pair
 pub record Published (p : Floorplan) : Type 0 where
   pub few : p .size ≤ 64
   pub full : length (p .codes) ≡ p .size * p .size

@@ -45,7 +45,7 @@ pub record Told : Type 0 where
   pub call : Call
   pub ok : Bool
 
--- the calls of a run, each with what the model answers
+-- the calls of a run, each with whether the model accepts it; of a packing this is not asked, and true stands there
 abbrev pub told : State → List Call → List Told
 told s [] = []
 told s (c ∷ cs) = record { call = c; ok = accepted s c } ∷ told (step s c) cs
@@ -79,6 +79,7 @@ noteCall a keep = record { origin = a .origin; kept = a .kept ++ listed (a .tria
 noteCall a undo = record { origin = a .origin; kept = a .kept; trial = None }
 noteCall a ask = a
 
+-- one call more with whether it was accepted
 abbrev pub note : Account → Told → Account
 note a t = noteIf (t .ok)
   where
@@ -91,6 +92,7 @@ abbrev pub accountFrom : Account → List Told → Account
 accountFrom a [] = a
 accountFrom a (t ∷ ts) = accountFrom (note a t) ts
 
+-- the account of a plan from its making on
 abbrev pub account : List Told → Account
 account ts = accountFrom newAccount ts
 

@@ -9,7 +9,7 @@ use Rattle.plans.specs.Sequences.{orderedBy}
 use Rattle.plans.specs.Tables.{Table, Floorplan, codesOf}
 
 -- i is left of j where it stands before j in both sequences, and below j where it stands before j in the
--- packing sequence and after it in the other
+-- packing sequence and after it in the other, for modules that both sequences name
 abbrev pub pairTable : List ℕ → List ℕ → Table
 pairTable other packing i j =
     cond (ltb (placeOf packing i) (placeOf packing j))

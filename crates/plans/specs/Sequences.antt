@@ -13,7 +13,8 @@ use Rattle.plans.specs.Tables.{Table}
 abbrev pub countBefore : ℕ → (ℕ → ℕ → Bool) → ℕ → ℕ
 countBefore m before i = countBelow m (λ j. before j i)
 
--- the sequence in which each module stands at the place that counts those before it
+-- the sequence in which each module stands at the place that counts those before it, for an order in which any two
+-- compare; 0 at a place that no module counts
 abbrev pub orderedBy : ℕ → (ℕ → ℕ → Bool) → List ℕ
 orderedBy m before = map (λ k. valueOr (firstBelow m (λ i. eqb (countBefore m before i) k)) 0) (counting 0 m)
 
@@ -21,7 +22,7 @@ orderedBy m before = map (λ k. valueOr (firstBelow m (λ i. eqb (countBefore m 
 abbrev pub edgeTo : Table → ℕ → ℕ → Bool
 edgeTo c i j = ltb 0 (c i j)
 
--- the packing sequence that fits a table
+-- the packing sequence that fits a feasible table
 abbrev pub fitting : ℕ → Table → List ℕ
 fitting m c = orderedBy m (edgeTo c)
 
@@ -34,7 +35,7 @@ keptBy passes (x ∷ xs) = cond (passes x) (x ∷ keptBy passes xs) (keptBy pass
 abbrev pub betweenIn : List ℕ → ℕ → ℕ → List ℕ
 betweenIn s a b = drop (suc (placeOf s a)) (take (placeOf s b) s)
 
--- after a reverse of (a, b) in graph g, where a stands before b: take a out and put it after b; then take each
+-- after a reverse of (a, b) in graph g of the table c, where a stands before b: take a out and put it after b; then take each
 -- module between them to which a has an edge of g out and put it after the one put in last
 abbrev pub repaired : Table → ℕ → ℕ → ℕ → List ℕ → List ℕ
 repaired c g a b s =

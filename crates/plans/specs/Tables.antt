@@ -2,22 +2,18 @@
 use Prim.Native.Nat.{ℕ, _+_, _*_, _/_, _%_, _≤_, _<_}
 use mathlib.Core.Path.{_≡_}
 use mathlib.Core.Bool.{Bool, cond, _&&_}
-use mathlib.Core.List.{List, map}
+use mathlib.Core.List.{List, [], map}
 use mathlib.Core.Logic.{_⊎_, _≢_}
 use lib.Dec.{ltb}
 use lib.ListN.{length, getD}
 use Rattle.std.specs.Iters.{counting}
+use Rattle.std.specs.declared.option.Option.{Option}
+use Rattle.std.specs.declared.option.Option.the-variants.{Some, None}
 
--- the code at (i, j): 1 where i is left of j, 2 where i is below j, 0 where neither
+-- the code at (i, j): 1 where i is left of j, 2 where i is below j, 0 where neither; so codes 1 are the edges of
+-- the horizontal graph and codes 2 those of the vertical graph
 abbrev pub Table : Type 0
 Table = ℕ → ℕ → ℕ
-
--- codes 1 are the edges of the horizontal graph, codes 2 those of the vertical one
-abbrev pub horizontal : ℕ
-horizontal = 1
-
-abbrev pub vertical : ℕ
-vertical = 2
 
 -- the table of m rows of m codes, in one list row after row; 0 outside it
 abbrev pub tableOf : ℕ → List ℕ → Table
@@ -36,6 +32,14 @@ pub record Floorplan : Type 0 where
 -- the table of a floorplan
 abbrev pub tableIn : Floorplan → Table
 tableIn p = tableOf (p .size) (p .codes)
+
+-- the module at a place of the sequence, none outside it
+abbrev pub moduleAt : Floorplan → ℕ → Option ℕ
+moduleAt p k = cond (ltb k (length (p .sequence))) (Some (getD (p .sequence) k 0)) None
+
+-- the floorplan of no modules, which a fresh representation means
+abbrev pub noModules : Floorplan
+noModules = record { size = 0; codes = []; sequence = [] }
 
 -- a table of m modules whose relations are two closure graphs
 pub record FeasibleTable (m : ℕ) (c : Table) : Type 0 where
@@ -67,7 +71,7 @@ pub record Fits (m : ℕ) (c : Table) (s : List ℕ) : Type 0 where
 
 -- a floorplan that is a pair of closure graphs with their packing sequence
 pub record Feasible (p : Floorplan) : Type 0 where
-  -- one code for each two modules
+  -- one code for each ordered pair of modules
   pub full : length (p .codes) ≡ p .size * p .size
   pub table : FeasibleTable (p .size) (tableIn p)
   pub fits : Fits (p .size) (tableIn p) (p .sequence)

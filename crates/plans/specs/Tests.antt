@@ -54,7 +54,7 @@ tableRefusal limit greatest m codes =
     (orElse (tellingPair NotOneEdge (firstPair m (notOneEdge c)))
     (tellingPair NotClosed (firstPair m (notClosed m c))))))
 
--- the first refusal of a sequence, as long as the table has modules
+-- the first refusal of a sequence, whose length is the number of modules
 abbrev pub sequenceRefusal : Table → List ℕ → Option LoadRefusal
 sequenceRefusal c s =
     orElse (mapped WrongPlace (firstBelow (length s) (placeWrong s)))

@@ -9,16 +9,19 @@ use Rattle.std.specs.declared.option.Option.{Option}
 use Rattle.std.specs.declared.option.Option.the-variants.{Some, None}
 use Rattle.std.specs.declared.result.Result.{Result}
 use Rattle.std.specs.declared.result.Result.the-variants.{Ok, Err}
-use Rattle.plans.specs.Changes.{after-load, after-change, changed, bypassed}
+use Rattle.plans.specs.Changes.{after-load, after-change, changeRefusal, changed, bypassed}
 use Rattle.plans.specs.Kinds.{Kind, Count, plainKind, countedKind}
 use Rattle.plans.specs.Model.{made-of, model-change}
 use Rattle.plans.specs.Packing.{Task}
 use Rattle.plans.specs.PackingCalls.{Outcome, after-pack, after-pack-pinned, after-pack-rotated}
-use Rattle.plans.specs.Runs.{run, change, keep}
-use Rattle.plans.specs.SequencePairs.{fromPair}
+use Rattle.plans.specs.Numbers.{numberOfLoad, numberOfChange, numberOfPinned, numberOfPack}
+use Rattle.plans.specs.Runs.{run, told, account, load, change, keep, undo, making, loading}
+use Rattle.plans.specs.SequencePairs.{fromPair, otherSequence}
+use Rattle.plans.specs.Sequences.{repaired}
 use Rattle.plans.specs.Shortcuts.{reverseOnly, moveOnly, unclosedRefusal}
-use Rattle.plans.specs.Tables.{Floorplan, tableIn, codesOf}
+use Rattle.plans.specs.Tables.{Floorplan, tableIn, codesOf, noModules}
 use Rattle.plans.specs.Tests.{loadRefusal}
+use Rattle.plans.specs.Transposed.{transpose}
 use Rattle.plans.specs.declared.change.Change.the-variants.{Rotate, Swap, Reverse, MoveEdge}
 use Rattle.plans.specs.declared.measures.Sides.{Sides}
 use Rattle.plans.specs.declared.measures.Placed.{Placed}
@@ -45,8 +48,8 @@ abbrev pub twoBesideOne : Floorplan
 twoBesideOne = three 0 1 2 0 0 0 0 1 0 0 2 1
 
 -- 0 and 2 left of 1, 2 below 0
-abbrev pub twoBesideOneTurned : Floorplan
-twoBesideOneTurned = three 0 1 0 0 0 0 2 1 0 2 0 1
+abbrev pub twoBesideOneOther : Floorplan
+twoBesideOneOther = three 0 1 0 0 0 0 2 1 0 2 0 1
 
 -- 0 left of 1 and 1 left of 2, but 0 below 2
 abbrev pub unclosed : Floorplan
@@ -56,6 +59,7 @@ unclosed = three 0 1 2 0 0 1 0 0 0 0 1 2
 abbrev pub reload : Floorplan → Result Floorplan LoadRefusal
 reload p = after-load (p .codes) (p .sequence)
 
+-- the sides of a module
 abbrev pub sides : {L : Type 0} → L → L → Sides L
 sides w h = record { width = w; height = h }
 
@@ -71,9 +75,11 @@ countedSides = map (λ s. sides (record { long = s .width; borders = 1 }) (recor
 abbrev pub taskOf : {L : Type 0} → Floorplan → List (Sides L) → Task L
 taskOf p all = record { plan = p; rotated = λ i. false; sides = all }
 
+-- a placed module
 abbrev pub placed : {L : Type 0} → L → L → L → L → Placed L
 placed l b r t = record { left = l; bottom = b; right = r; top = t }
 
+-- a chip
 abbrev pub chip : {L : Type 0} → L → L → ℕ → Chip L
 chip w h a = record { width = w; height = h; area = a }
 
@@ -81,10 +87,10 @@ chip w h a = record { width = w; height = h; area = a }
 abbrev pub blank : List (Placed ℕ)
 blank = placed 9 9 9 9 ∷ placed 9 9 9 9 ∷ placed 9 9 9 9 ∷ placed 9 9 9 9 ∷ []
 
--- what packing one module of a given width answers
-abbrev pub oneWide : ℕ → Result (Chip ℕ) PackRefusal
-oneWide w =
-    after-pack plainKind (taskOf (record { size = 1; codes = 0 ∷ []; sequence = 0 ∷ [] }) (sides w 1 ∷ [])) blank .answer
+-- what packing one module of given sides answers
+abbrev pub oneOf : ℕ → ℕ → Result (Chip ℕ) PackRefusal
+oneOf w h =
+    after-pack plainKind (taskOf (record { size = 1; codes = 0 ∷ []; sequence = 0 ∷ [] }) (sides w h ∷ [])) blank .answer
 
 -- the literature's seven modules, a to g, by its sequence pair
 abbrev pub seven : Floorplan
@@ -98,6 +104,7 @@ sevenSides = sides 7 3 ∷ sides 4 5 ∷ sides 4 7 ∷ sides 6 4 ∷ sides 3 3 �
 abbrev pub reduces : Floorplan → ℕ → ℕ → Bool
 reduces p a b = not (bypassed (p .size) (tableIn p) a b)
 
+-- what the definitions give for each
 pub record WorkedPlans : Type 0 where
   -- two modules beside each other under a third
   pub accepted : reload twoUnderOne ≡ Ok twoUnderOne
@@ -107,25 +114,36 @@ pub record WorkedPlans : Type 0 where
         answer = Ok (chip 7 4 28);
         results = placed 0 0 4 2 ∷ placed 4 0 7 3 ∷ placed 0 3 5 4 ∷ placed 9 9 9 9 ∷ [];
       }
-  -- its sequence against an edge
+  -- its sequence against an edge, refused by 16
   pub against : after-load (twoUnderOne .codes) (1 ∷ 0 ∷ 2 ∷ []) ≡ Err (Backwards 0 1)
-  -- a graph that is not closed
+  pub againstNumber : numberOfLoad (Backwards 0 1) ≡ 16
+  -- a graph that is not closed, refused by 14
   pub notClosed : reload unclosed ≡ Err (NotClosed 0 2)
-  -- a swap
+  pub notClosedNumber : numberOfLoad (NotClosed 0 2) ≡ 14
+  -- a swap, and that its result is accepted
   pub swapped : after-change twoUnderOne (Swap 0 2) ≡ Ok (three 0 0 0 2 0 0 2 1 0 2 1 0)
+  pub swappedAccepted : reload (three 0 0 0 2 0 0 2 1 0 2 1 0) ≡ Ok (three 0 0 0 2 0 0 2 1 0 2 1 0)
   -- a reverse of an edge that stands alone
   pub reversed : after-change twoUnderOne (Reverse 0 1) ≡ Ok (three 0 0 2 1 0 2 0 0 0 1 0 2)
-  -- a reverse that takes another module along
+  pub reversedAccepted : reload (three 0 0 2 1 0 2 0 0 0 1 0 2) ≡ Ok (three 0 0 2 1 0 2 0 0 0 1 0 2)
+  -- a reverse that takes another module along, with the published repair of the sequence
+  pub besideAccepted : reload twoBesideOne ≡ Ok twoBesideOne
   pub reversedWithMore : after-change twoBesideOne (Reverse 0 1) ≡ Ok (three 0 0 0 1 0 0 1 1 0 2 1 0)
-  -- a move that takes another module along, kept; then the other edge is no reduction edge
+  pub reversedWithMoreAccepted : reload (three 0 0 0 1 0 0 1 1 0 2 1 0) ≡ Ok (three 0 0 0 1 0 0 1 1 0 2 1 0)
+  pub reversedRepaired : repaired (tableIn twoBesideOne) 1 0 1 (twoBesideOne .sequence) ≡ 2 ∷ 1 ∷ 0 ∷ []
+  -- a move that takes another module along, kept; then the other edge is no reduction edge, refused by 24
+  pub besideOtherAccepted : reload twoBesideOneOther ≡ Ok twoBesideOneOther
   pub moved :
-      run (made-of twoBesideOneTurned) (change (MoveEdge 0 1) ∷ keep ∷ []) ≡ made-of (three 0 2 0 0 0 0 2 2 0 2 0 1)
+      run (made-of twoBesideOneOther) (change (MoveEdge 0 1) ∷ keep ∷ []) ≡ made-of (three 0 2 0 0 0 0 2 2 0 2 0 1)
   pub movedThenNot :
-      model-change (run (made-of twoBesideOneTurned) (change (MoveEdge 0 1) ∷ keep ∷ [])) (MoveEdge 2 1) .answer
+      model-change (run (made-of twoBesideOneOther) (change (MoveEdge 0 1) ∷ keep ∷ [])) (MoveEdge 2 1) .answer
       ≡ Err (change-refusal.Refused NoReductionEdge)
-  -- a reverse against the edge
+  pub movedAccepted : reload (three 0 2 0 0 0 0 2 2 0 2 0 1) ≡ Ok (three 0 2 0 0 0 0 2 2 0 2 0 1)
+  pub movedNumber : numberOfChange NoReductionEdge ≡ 24
+  -- a reverse against the edge, refused by 23
   pub noEdge : after-change twoUnderOne (Reverse 1 0) ≡ Err NoEdge
-  -- module 1 pinned with room, where it is anyway, and too near
+  pub noEdgeNumber : numberOfChange NoEdge ≡ 23
+  -- module 1 pinned with room, where it is anyway, and too near, refused by 45
   pub pinnedFar : after-pack-pinned plainKind (taskOf twoUnderOne threeSides) blank 1 6 0 .answer ≡ Ok (chip 9 4 36)
   pub pinnedThere : after-pack-pinned plainKind (taskOf twoUnderOne threeSides) blank 1 4 0 .answer ≡ Ok (chip 7 4 28)
   pub pinnedNear :
@@ -134,29 +152,52 @@ pub record WorkedPlans : Type 0 where
         answer = Err NoPlace;
         results = placed 0 0 4 2 ∷ placed 4 0 7 3 ∷ placed 0 3 5 4 ∷ placed 9 9 9 9 ∷ [];
       }
+  pub pinnedNumber : numberOfPinned NoPlace ≡ 45
   -- module 2 as if rotated once more
   pub rotatedOnce : after-pack-rotated plainKind (taskOf twoUnderOne threeSides) blank 2 .answer ≡ Ok (chip 7 8 56)
   -- no modules
   pub none :
-      (after-load [] [] ≡ Ok (record { size = 0; codes = []; sequence = [] }))
-      × (after-pack plainKind (taskOf (record { size = 0; codes = []; sequence = [] }) []) blank ≡
+      (after-load [] [] ≡ Ok noModules)
+      × (after-pack plainKind (taskOf noModules []) blank ≡
       record { answer = Ok (chip 0 0 0); results = blank })
-  -- the least and the greatest side
-  pub greatestSide : oneWide 100000 ≡ Ok (chip 100000 1 100000)
-  pub noSide : oneWide 0 ≡ Err (WrongSide 0)
-  pub sideBeyond : oneWide 100001 ≡ Err (WrongSide 0)
-  -- borders are counted along the longest paths
+  -- sides of 100,000 are taken; 0 and 100,001, of either side and of whichever module, are refused by 42
+  pub greatestSide : oneOf 100000 100000 ≡ Ok (chip 100000 100000 10000000000)
+  pub noWidth : oneOf 0 1 ≡ Err (WrongSide 0)
+  pub noHeight : oneOf 1 0 ≡ Err (WrongSide 0)
+  pub widthBeyond : oneOf 100001 1 ≡ Err (WrongSide 0)
+  pub heightBeyond : oneOf 1 100001 ≡ Err (WrongSide 0)
+  pub laterModule :
+      after-pack plainKind (taskOf twoUnderOne (sides 4 2 ∷ sides 3 3 ∷ sides 5 0 ∷ [])) blank
+      ≡ record { answer = Err (WrongSide 2); results = blank }
+  pub sideNumber : numberOfPack (WrongSide 2) ≡ 42
+  -- borders are counted along the longest paths of the plan after a move
+  pub countedPlan : after-change twoUnderOne (MoveEdge 0 1) ≡ Ok (three 0 2 2 0 0 2 0 0 0 0 1 2)
   pub counted :
-      after-pack countedKind (taskOf (changed twoUnderOne (MoveEdge 0 1)) countedSides)
+      after-pack countedKind (taskOf (three 0 2 2 0 0 2 0 0 0 0 1 2) countedSides)
       (map (λ p. placed (record { long = 9; borders = 9 }) (record { long = 9; borders = 9 }) (record { long = 9; borders = 9 }) (record { long = 9; borders = 9 })) blank) .answer
       ≡ Ok (chip (record { long = 5; borders = 1 }) (record { long = 6; borders = 3 }) 30)
   -- the three shortcuts give plans that a load refuses, or accept one that it refuses
   pub reversingOnlyTheEdge :
       loadRefusal (codesOf 3 (reverseOnly (tableIn twoBesideOne) 0 1)) (2 ∷ 1 ∷ 0 ∷ []) ≡ Some (NotClosed 2 0)
   pub movingOnlyTheEdge :
-      loadRefusal (codesOf 3 (moveOnly (tableIn twoBesideOneTurned) 0 1)) (2 ∷ 0 ∷ 1 ∷ []) ≡ Some (NotClosed 2 1)
+      loadRefusal (codesOf 3 (moveOnly (tableIn twoBesideOneOther) 0 1)) (2 ∷ 0 ∷ 1 ∷ []) ≡ Some (NotClosed 2 1)
   pub notTestingClosure : unclosedRefusal (unclosed .codes) (unclosed .sequence) ≡ None
-  -- the literature's example: its table, its sequence, the reduction edges from c, and two changes
+  -- rotations stay with their modules: a rotation kept, a swap undone, and a load that is refused in a trial
+  pub rotationKept :
+      run (made-of twoUnderOne) (change (Rotate 1) ∷ keep ∷ change (Swap 0 2) ∷ load [] [] ∷ undo ∷ []) .current .rotated 1 ≡ true
+  pub planRestored :
+      run (made-of twoUnderOne) (change (Rotate 1) ∷ keep ∷ change (Swap 0 2) ∷ load [] [] ∷ undo ∷ []) .current .plan
+      ≡ twoUnderOne
+  -- the account of a run: a refused change and an undone one leave no trace, a kept one and one on trial do
+  pub accounted :
+      account (told (made-of twoUnderOne) (change (Reverse 1 0) ∷ change (Swap 0 2) ∷ undo ∷ change (Reverse 0 1) ∷ keep ∷ change (Rotate 2) ∷ []))
+      ≡ record { origin = making; kept = Reverse 0 1 ∷ []; trial = Some (Rotate 2) }
+  pub accountedLoad :
+      account (told (made-of twoUnderOne) (change (Rotate 2) ∷ keep ∷ load (twoBesideOne .codes) (twoBesideOne .sequence) ∷ keep ∷ []))
+      ≡ record { origin = loading (twoBesideOne .codes) (twoBesideOne .sequence); kept = []; trial = None }
+  -- the axes exchanged
+  pub transposed : transpose twoUnderOne ≡ three 0 2 1 0 0 1 0 0 0 0 1 2
+  -- the literature's example: its table, its other sequence, the reduction edges from c, and two changes
   pub sevenTable :
       seven .codes ≡
       (0 ∷ 2 ∷ 2 ∷ 2 ∷ 2 ∷ 2 ∷ 1 ∷
@@ -169,9 +210,15 @@ pub record WorkedPlans : Type 0 where
   pub sevenAccepted : reload seven ≡ Ok seven
   pub sevenReduced :
       (reduces seven 2 3 ≡ true) × (reduces seven 2 4 ≡ true) × (reduces seven 2 5 ≡ true) × (reduces seven 2 6 ≡ false)
+  pub sevenOther : otherSequence 7 (tableIn seven) ≡ 2 ∷ 1 ∷ 5 ∷ 4 ∷ 3 ∷ 0 ∷ 6 ∷ []
+  pub sevenSwapTaken : changeRefusal seven (Swap 2 6) ≡ None
   pub sevenSwapped : changed seven (Swap 2 6) .sequence ≡ 0 ∷ 1 ∷ 6 ∷ 3 ∷ 4 ∷ 2 ∷ 5 ∷ []
+  pub sevenReverseTaken : changeRefusal (changed seven (Swap 2 6)) (Reverse 3 4) ≡ None
   pub sevenReversed :
       changed (changed seven (Swap 2 6)) (Reverse 3 4) .sequence ≡ 0 ∷ 1 ∷ 6 ∷ 4 ∷ 3 ∷ 2 ∷ 5 ∷ []
+  pub sevenRepaired :
+      repaired (tableIn (changed seven (Swap 2 6))) 2 3 4 (0 ∷ 1 ∷ 6 ∷ 3 ∷ 4 ∷ 2 ∷ 5 ∷ []) ≡ 0 ∷ 1 ∷ 6 ∷ 4 ∷ 3 ∷ 2 ∷ 5 ∷ []
+  -- its packing, worked out here
   pub sevenPacked :
       after-pack plainKind (taskOf seven sevenSides) (map (λ k. placed 9 9 9 9) (counting 0 7)) ≡
       record {

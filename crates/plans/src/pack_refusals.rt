@@ -16,6 +16,7 @@ pub enum PackRefusal {
 // A packing with one module pinned that is refused.
 #[derive(Clone, Copy)]
 pub enum PinnedRefusal {
+    // what any packing refuses
     Packing(PackRefusal),
     // the pinned number is no module's
     NoModule,
@@ -28,6 +29,7 @@ pub enum PinnedRefusal {
 // A packing with one module rotated once more that is refused.
 #[derive(Clone, Copy)]
 pub enum RotationRefusal {
+    // what any packing refuses
     Packing(PackRefusal),
     // the number is no module's
     NoModule,

@@ -5,13 +5,13 @@ ghost use Rattle.plans.specs.Numbers.{numberOfLoad, numberOfChange, numberOfPl
 // A load that a representation refuses. Pairs are the first in row order.
 #[derive(Clone, Copy)]
 pub enum LoadRefusal {
-    // over 64 modules, or not one code for each two of them
+    // over 64 modules, or not one code for each ordered pair of them
     WrongShape,
-    // a code that is no relation
+    // a code above 2
     WrongCode(usize, usize),
     // a module related to itself
     SelfRelated(usize, usize),
-    // two modules without an edge or with two
+    // two modules, the lower number first, without an edge or with two
     NotOneEdge(usize, usize),
     // an edge missing that two others close
     NotClosed(usize, usize),
@@ -37,20 +37,25 @@ pub enum ChangeRefusal {
 // A load that a plan refuses.
 #[derive(Clone, Copy)]
 pub enum PlanLoadRefusal {
+    // a trial is open
     TrialOpen,
+    // the representation refuses
     Refused(LoadRefusal),
 }
 
 // A change that a plan refuses.
 #[derive(Clone, Copy)]
 pub enum PlanChangeRefusal {
+    // a trial is open
     TrialOpen,
+    // the representation refuses
     Refused(ChangeRefusal),
 }
 
 // A keep or an undo that a plan refuses.
 #[derive(Clone, Copy)]
 pub enum TrialRefusal {
+    // no trial is open
     NoTrial,
 }
 
