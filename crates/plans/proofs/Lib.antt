@@ -9,3 +9,5 @@ pub mod LoadFirst
 pub mod PublishedLoad
 pub mod PublishedFeasible
 pub mod LoadLaw
+pub mod Transposing
+pub mod TransposeLaw

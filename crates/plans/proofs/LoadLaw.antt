@@ -19,7 +19,7 @@ use Rattle.plans.specs.LoadLaw.{LoadLaw, LoadApplies, given}
 use Rattle.plans.specs.Numbers.{numberOfLoad, toldByLoad}
 use Rattle.plans.specs.Published.{Published}
 use Rattle.plans.specs.Search.{placeOf}
-use Rattle.plans.specs.Tables.{Table, Feasible, FeasibleTable, Fits, tableOf}
+use Rattle.plans.specs.Tables.{Table, Floorplan, Feasible, FeasibleTable, Fits, tableOf}
 use Rattle.plans.specs.Tests.{loadRefusal}
 use Rattle.plans.specs.declared.refusals.LoadRefusal.{LoadRefusal}
 use Rattle.plans.specs.declared.refusals.LoadRefusal.the-variants.{WrongShape, WrongCode, SelfRelated, NotOneEdge, NotClosed, WrongPlace, Backwards}
@@ -168,3 +168,8 @@ load-law =
       published = feasible-published;
       feasible = published-feasible;
     }
+
+-- a feasible floorplan is what a load of its own codes and sequence gives
+pub feasible-given : (p : Floorplan) → Feasible p → given (p .codes) (p .sequence) ≡ p
+feasible-given p f =
+    λ i. record { size = f .fits .long i; codes = p .codes; sequence = p .sequence }

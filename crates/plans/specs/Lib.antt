@@ -11,6 +11,7 @@ pub mod FirstRefusals
 pub mod LoadLaw
 pub mod Changes
 pub mod Transposed
+pub mod TransposeLaw
 pub mod SequencePairs
 pub mod Kinds
 pub mod Axes
