@@ -1,5 +1,6 @@
 -- The changes of a floorplan, their refusals, and what a load or a change makes of a floorplan.
 use Prim.Native.Nat.{ℕ, _-_}
+use mathlib.Core.Path.{_≡_}
 use mathlib.Core.Bool.{Bool, true, false, cond, not, _&&_, _||_}
 use mathlib.Core.List.{List, map}
 use lib.Dec.{eqb, ltb, leb}
@@ -104,3 +105,8 @@ after-load codes s = unless (loadRefusal codes s) (record { size = length s; cod
 -- what a change of a floorplan gives: its first refusal, or the changed floorplan
 abbrev pub after-change : Floorplan → Change → Result Floorplan ChangeRefusal
 after-change p change = unless (changeRefusal p change) (changed p change)
+
+-- a call's answer and what is meant after it: a refusal, and what was meant before; or done, and what was made
+abbrev pub Follows : {E : Type 0} → Result Floorplan E → Result (Unit {0}) E → Floorplan → Floorplan → Type 0
+Follows (Ok made) answer old new = (answer ≡ Ok tt) × (new ≡ made)
+Follows (Err e) answer old new = (answer ≡ Err e) × (new ≡ old)

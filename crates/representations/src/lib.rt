@@ -1,0 +1,4 @@
+// Representations: what stands for one feasible floorplan, whatever it keeps.
+mod representation;
+
+pub use representation::Representation;
