@@ -11,3 +11,4 @@ pub mod PublishedFeasible
 pub mod LoadLaw
 pub mod Transposing
 pub mod TransposeLaw
+pub mod Accounts

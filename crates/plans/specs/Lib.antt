@@ -20,5 +20,6 @@ pub mod PackingCalls
 pub mod Placements
 pub mod Model
 pub mod Runs
+pub mod ModelLaw
 pub mod Shortcuts
 pub mod Worked
