@@ -3,3 +3,4 @@ pub mod Searches
 pub mod TableLists
 pub mod Pigeonhole
 pub mod Orders
+pub mod Sequences

@@ -6,6 +6,7 @@ pub mod Tables
 pub mod Published
 pub mod Sequences
 pub mod Orders
+pub mod OneSequence
 pub mod Tests
 pub mod Changes
 pub mod Transposed
