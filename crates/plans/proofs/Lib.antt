@@ -4,3 +4,8 @@ pub mod TableLists
 pub mod Pigeonhole
 pub mod Orders
 pub mod Sequences
+pub mod Beside
+pub mod ReverseTables
+pub mod ReverseFeasible
+pub mod MoveFeasible
+pub mod SwapFeasible
