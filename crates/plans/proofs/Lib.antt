@@ -9,3 +9,4 @@ pub mod ReverseTables
 pub mod ReverseFeasible
 pub mod MoveFeasible
 pub mod SwapFeasible
+pub mod ChangesFeasible

@@ -9,6 +9,7 @@ pub mod Orders
 pub mod OneSequence
 pub mod Tests
 pub mod Changes
+pub mod ChangesFeasible
 pub mod ChangesInWords
 pub mod Transposed
 pub mod SequencePairs
