@@ -10,3 +10,5 @@ pub mod ReverseFeasible
 pub mod MoveFeasible
 pub mod SwapFeasible
 pub mod ChangesFeasible
+pub mod ChangesInWords
+pub mod ReductionEdges

@@ -11,6 +11,7 @@ pub mod Tests
 pub mod Changes
 pub mod ChangesFeasible
 pub mod ChangesInWords
+pub mod ReductionEdges
 pub mod Transposed
 pub mod SequencePairs
 pub mod Kinds
