@@ -12,3 +12,12 @@ pub mod LoadLaw
 pub mod Transposing
 pub mod TransposeLaw
 pub mod Accounts
+pub mod Sequences
+pub mod Beside
+pub mod ReverseTables
+pub mod ReverseFeasible
+pub mod MoveFeasible
+pub mod SwapFeasible
+pub mod ChangesFeasible
+pub mod ChangesInWords
+pub mod ReductionEdges
