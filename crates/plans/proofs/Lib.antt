@@ -1,3 +1,4 @@
 -- The mathematics, a file for each subject.
 pub mod Searches
 pub mod TableLists
+pub mod KindLaws

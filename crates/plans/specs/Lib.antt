@@ -10,6 +10,7 @@ pub mod Changes
 pub mod Transposed
 pub mod SequencePairs
 pub mod Kinds
+pub mod LaterOfTwo
 pub mod Axes
 pub mod Packing
 pub mod PackingCalls

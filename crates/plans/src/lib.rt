@@ -2,6 +2,7 @@
 mod change;
 mod measures;
 mod pack_refusals;
+mod packings;
 mod refusals;
 mod worked;
 
@@ -13,6 +14,8 @@ pub use pack_refusals::LengthRefusal;
 pub use pack_refusals::PackRefusal;
 pub use pack_refusals::PinnedRefusal;
 pub use pack_refusals::RotationRefusal;
+pub use packings::later_of_two;
+pub use packings::lawful_kinds;
 pub use refusals::ChangeRefusal;
 pub use refusals::LoadRefusal;
 pub use refusals::PlanChangeRefusal;
