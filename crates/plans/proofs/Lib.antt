@@ -2,3 +2,4 @@
 pub mod Searches
 pub mod TableLists
 pub mod KindLaws
+pub mod Latest
