@@ -3,3 +3,4 @@ pub mod Searches
 pub mod TableLists
 pub mod KindLaws
 pub mod Latest
+pub mod AxisPacking

@@ -12,6 +12,7 @@ pub mod SequencePairs
 pub mod Kinds
 pub mod LaterOfTwo
 pub mod Axes
+pub mod AxisTheorems
 pub mod Packing
 pub mod PackingCalls
 pub mod Placements
