@@ -4,3 +4,4 @@ pub mod TableLists
 pub mod KindLaws
 pub mod Latest
 pub mod AxisPacking
+pub mod LongestPaths

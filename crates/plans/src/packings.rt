@@ -1,4 +1,5 @@
 // The theorems about kinds of length, least packings and longest paths.
+ghost use Rattle.plans.specs.AxisTheorems.{PacksLeast, PathsCovered, PacksLongest};
 ghost use Rattle.plans.specs.Kinds.{Lawful, plainKind, countedKind};
 ghost use Rattle.plans.specs.LaterOfTwo.{LaterIsJoin};
 
@@ -11,4 +12,13 @@ pub fn lawful_kinds()
 // The later of two lengths is their least upper bound and one of the two, for every kind.
 pub fn later_of_two<L>()
     ensures { λ _. ⌜ LaterIsJoin L ⌝ }
+{}
+
+// Along every axis whose relation is closed and without a cycle, packing gives the least near edges that keep
+// the relations, and there is no placement exactly where a module is pushed past its fixed edge. No path exceeds
+// a near edge, and with no fixed edge one is as long.
+pub fn packing_along_an_axis<L>()
+    ensures least { λ _. ⌜ PacksLeast L ⌝ }
+    ensures covered { λ _. ⌜ PathsCovered L ⌝ }
+    ensures longest { λ _. ⌜ PacksLongest L ⌝ }
 {}
