@@ -5,3 +5,4 @@ pub mod KindLaws
 pub mod Latest
 pub mod AxisPacking
 pub mod LongestPaths
+pub mod FlatAxes

@@ -16,6 +16,7 @@ pub mod AxisTheorems
 pub mod Packing
 pub mod PackingCalls
 pub mod Placements
+pub mod PackingTheorems
 pub mod Model
 pub mod Runs
 pub mod Shortcuts
