@@ -6,3 +6,5 @@ pub mod Latest
 pub mod AxisPacking
 pub mod LongestPaths
 pub mod FlatAxes
+pub mod LeastPlacements
+pub mod PackRefusals

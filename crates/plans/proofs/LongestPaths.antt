@@ -69,7 +69,7 @@ module _ {L : Type 0} (K : Kind L) (x : Axis L) where
       ]
 
   -- nothing is pushed where nothing is fixed
-  unfixed-free : Unfixed K x → stuck K x ≡ false
+  pub unfixed-free : Unfixed K x → stuck K x ≡ false
   unfixed-free unfixed = none-from (x .size) (pushed K x) (λ i h. rw (unfixed i h) refl)
 
   -- with no fixed edge, near edges are longest paths
