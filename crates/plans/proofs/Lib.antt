@@ -8,3 +8,4 @@ pub mod LongestPaths
 pub mod FlatAxes
 pub mod LeastPlacements
 pub mod PackRefusals
+pub mod PackingLaws

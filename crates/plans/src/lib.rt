@@ -16,6 +16,7 @@ pub use pack_refusals::PinnedRefusal;
 pub use pack_refusals::RotationRefusal;
 pub use packings::later_of_two;
 pub use packings::lawful_kinds;
+pub use packings::packing_a_floorplan;
 pub use packings::packing_along_an_axis;
 pub use refusals::ChangeRefusal;
 pub use refusals::LoadRefusal;

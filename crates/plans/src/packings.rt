@@ -2,6 +2,7 @@
 ghost use Rattle.plans.specs.AxisTheorems.{PacksLeast, PathsCovered, PacksLongest};
 ghost use Rattle.plans.specs.Kinds.{Lawful, plainKind, countedKind};
 ghost use Rattle.plans.specs.LaterOfTwo.{LaterIsJoin};
+ghost use Rattle.plans.specs.PackingTheorems.{PacksPlans, PackIsLeast, PinnedIsLeast, RotatedIsLeast};
 
 // Plain and counted lengths have the laws of a kind of length.
 pub fn lawful_kinds()
@@ -21,4 +22,15 @@ pub fn packing_along_an_axis<L>()
     ensures least { λ _. ⌜ PacksLeast L ⌝ }
     ensures covered { λ _. ⌜ PathsCovered L ⌝ }
     ensures longest { λ _. ⌜ PacksLongest L ⌝ }
+{}
+
+// Packing a feasible floorplan gives the least placement that keeps its relations: no two modules overlap, and
+// each near and far edge, width, height and area is at most any other placement's. With a module pinned it does
+// so too, or else there is no placement; with one rotated once more it does. Without a pin near edges are
+// longest paths, and no sum goes beyond the limit.
+pub fn packing_a_floorplan<L>()
+    ensures plans { λ _. ⌜ PacksPlans L ⌝ }
+    ensures pack { λ _. ⌜ PackIsLeast L ⌝ }
+    ensures pinned { λ _. ⌜ PinnedIsLeast L ⌝ }
+    ensures rotated { λ _. ⌜ RotatedIsLeast L ⌝ }
 {}
