@@ -9,3 +9,4 @@ pub mod FlatAxes
 pub mod LeastPlacements
 pub mod PackRefusals
 pub mod PackingLaws
+pub mod CarriedPackings

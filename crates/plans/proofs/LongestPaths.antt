@@ -60,8 +60,7 @@ module _ {L : Type 0} (K : Kind L) (x : Axis L) where
       elim (latest-picks K picks (λ j. x .before j i) (λ j. x .step j (nearWithin K x n j)) (x .size)) [
         | inl r ↦ ([], tt, free ∙ r)
         | inr r ↦
-            let p = rounds-path picks unfixed n (r .0) (r .1) in
-            (
+            let p = rounds-path picks unfixed n (r .0) (r .1) in (
               p .0 ++ (r .0 ∷ []),
               leads-on (p .0) (r .0) i (r .1) (r .2) (p .1),
               free ∙ r .3 ∙ ap (λ v. x .step (r .0) v) (p .2) ∙ sym (path-on (p .0) (r .0) (K .origin)),

@@ -55,8 +55,7 @@ module _ {L : Type 0} (K : Kind L) (t : Task L) (results : List (Placed L)) wher
       let listed = not-refusing (not (eqb (length (t .sides)) size)) WrongSides (first .0) in
       let room = not-refusing (ltb (length results) size) ShortResults (rest .0) in
       let found : wrong ≡ None = not-told WrongSide wrong (rest .1) in
-      let sides : IsFirst (wrongSide K (t .sides)) size None = rw found at (first-tells (wrongSide K (t .sides)) size) in
-      (
+      let sides : IsFirst (wrongSide K (t .sides)) size None = rw found at (first-tells (wrongSide K (t .sides)) size) in (
         record {
           feasible = feasible;
           listed = eqb-true (length (t .sides)) size (not-false (eqb (length (t .sides)) size) listed);
@@ -73,8 +72,7 @@ module _ {L : Type 0} (K : Kind L) (t : Task L) (results : List (Placed L)) wher
       let far = ltb pinLimit (K .reach across) || ltb pinLimit (K .reach up) in
       let first = neither-refused (mapped pinned.Packing (packRefusal K t results)) (orElse (refusing (leb (t .plan .size) a) pinned.NoModule) (refusing far pinned.FarPin)) none in
       let rest = neither-refused (refusing (leb (t .plan .size) a) pinned.NoModule) (refusing far pinned.FarPin) (first .1) in
-      let near = or-parts (ltb pinLimit (K .reach across)) (ltb pinLimit (K .reach up)) (not-refusing far pinned.FarPin (rest .1)) in
-      (
+      let near = or-parts (ltb pinLimit (K .reach across)) (ltb pinLimit (K .reach up)) (not-refusing far pinned.FarPin (rest .1)) in (
         not-told pinned.Packing (packRefusal K t results) (first .0),
         leb-false (t .plan .size) a (not-refusing (leb (t .plan .size) a) pinned.NoModule (rest .0)),
         λ g i v e. pin-near a across up g i v e (ltb-false pinLimit (K .reach across) (near .0)) (ltb-false pinLimit (K .reach up) (near .1)),
@@ -87,8 +85,7 @@ module _ {L : Type 0} (K : Kind L) (t : Task L) (results : List (Placed L)) wher
 
   pub not-refused-rotated : (a : ℕ) → rotationRefusal K t results a ≡ None → (packRefusal K t results ≡ None) × (a < t .plan .size)
   not-refused-rotated a none =
-      let first = neither-refused (mapped rotation.Packing (packRefusal K t results)) (refusing (leb (t .plan .size) a) rotation.NoModule) none in
-      (
+      let first = neither-refused (mapped rotation.Packing (packRefusal K t results)) (refusing (leb (t .plan .size) a) rotation.NoModule) none in (
         not-told rotation.Packing (packRefusal K t results) (first .0),
         leb-false (t .plan .size) a (not-refusing (leb (t .plan .size) a) rotation.NoModule (first .1)),
       )

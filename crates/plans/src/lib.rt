@@ -14,6 +14,8 @@ pub use pack_refusals::LengthRefusal;
 pub use pack_refusals::PackRefusal;
 pub use pack_refusals::PinnedRefusal;
 pub use pack_refusals::RotationRefusal;
+pub use packings::carried_packings;
+pub use packings::counted_is_plain;
 pub use packings::later_of_two;
 pub use packings::lawful_kinds;
 pub use packings::packing_a_floorplan;

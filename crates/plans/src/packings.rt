@@ -1,5 +1,6 @@
 // The theorems about kinds of length, least packings and longest paths.
 ghost use Rattle.plans.specs.AxisTheorems.{PacksLeast, PathsCovered, PacksLongest};
+ghost use Rattle.plans.specs.CarriedPackings.{CarriedPackings, CountedIsPlain};
 ghost use Rattle.plans.specs.Kinds.{Lawful, plainKind, countedKind};
 ghost use Rattle.plans.specs.LaterOfTwo.{LaterIsJoin};
 ghost use Rattle.plans.specs.PackingTheorems.{PacksPlans, PackIsLeast, PinnedIsLeast, RotatedIsLeast};
@@ -33,4 +34,14 @@ pub fn packing_a_floorplan<L>()
     ensures pack { λ _. ⌜ PackIsLeast L ⌝ }
     ensures pinned { λ _. ⌜ PinnedIsLeast L ⌝ }
     ensures rotated { λ _. ⌜ RotatedIsLeast L ⌝ }
+{}
+
+// A map between two kinds of length that keeps zero, sums, the later of two and extents carries packings along.
+pub fn carried_packings<L, M>()
+    ensures { λ _. ⌜ CarriedPackings L M ⌝ }
+{}
+
+// The lengths of a counted packing are those of the plain packing.
+pub fn counted_is_plain()
+    ensures { λ _. ⌜ CountedIsPlain ⌝ }
 {}
