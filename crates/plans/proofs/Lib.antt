@@ -21,3 +21,12 @@ pub mod SwapFeasible
 pub mod ChangesFeasible
 pub mod ChangesInWords
 pub mod ReductionEdges
+pub mod KindLaws
+pub mod Latest
+pub mod AxisPacking
+pub mod LongestPaths
+pub mod FlatAxes
+pub mod LeastPlacements
+pub mod PackRefusals
+pub mod PackingLaws
+pub mod CarriedPackings
