@@ -57,7 +57,7 @@ step-notes made o ks (Some d) undo = refl
 step-notes made o ks t ask = refl
 
 -- any number of calls
-run-notes :
+pub run-notes :
     (made : Layout) (a : Account) (cs : List Call)
     → run (stateOf made a) cs ≡ stateOf made (accountFrom a (told (stateOf made a) cs))
 run-notes made a [] = refl

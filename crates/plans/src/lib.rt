@@ -27,5 +27,6 @@ pub use refusals::PlanChangeRefusal;
 pub use refusals::PlanLoadRefusal;
 pub use refusals::TrialRefusal;
 pub use theorems::load_law;
+pub use theorems::model_law;
 pub use theorems::transpose_law;
 pub use worked::worked_plans;
