@@ -31,3 +31,5 @@ pub mod PackRefusals
 pub mod PackingLaws
 pub mod CarriedPackings
 pub mod ModelLaw
+pub mod ChangeFirst
+pub mod PackFirst

@@ -23,6 +23,7 @@ pub mod Axes
 pub mod AxisTheorems
 pub mod Packing
 pub mod PackingCalls
+pub mod RefusalLaws
 pub mod Placements
 pub mod PackingTheorems
 pub mod CarriedPackings

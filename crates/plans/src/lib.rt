@@ -26,6 +26,7 @@ pub use refusals::LoadRefusal;
 pub use refusals::PlanChangeRefusal;
 pub use refusals::PlanLoadRefusal;
 pub use refusals::TrialRefusal;
+pub use theorems::first_refusals;
 pub use theorems::load_law;
 pub use theorems::model_law;
 pub use theorems::transpose_law;

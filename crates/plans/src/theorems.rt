@@ -1,6 +1,7 @@
 // Theorems about the definitions, each on a function that only carries it.
 ghost use Rattle.plans.specs.LoadLaw.{LoadLaw};
 ghost use Rattle.plans.specs.ModelLaw.{ModelLaw};
+ghost use Rattle.plans.specs.RefusalLaws.{ChangeLaw, PackLaw};
 ghost use Rattle.plans.specs.TransposeLaw.{TransposeLaw};
 
 // A load is refused by the first refusal that applies, and accepted exactly where the published
@@ -19,4 +20,10 @@ pub fn transpose_law()
 // the calls gives: what the plan came from, the changes kept since, and the one on trial.
 pub fn model_law()
     ensures { λ _. ⌜ ModelLaw ⌝ }
+{}
+
+// A change, and each packing call, is refused by the first refusal that applies.
+pub fn first_refusals<L>()
+    ensures change { λ _. ⌜ ChangeLaw ⌝ }
+    ensures packing { λ _. ⌜ PackLaw L ⌝ }
 {}
