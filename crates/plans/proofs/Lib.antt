@@ -10,3 +10,4 @@ pub mod LeastPlacements
 pub mod PackRefusals
 pub mod PackingLaws
 pub mod CarriedPackings
+pub mod PackingAnswers

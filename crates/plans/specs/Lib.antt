@@ -17,6 +17,7 @@ pub mod Packing
 pub mod PackingCalls
 pub mod Placements
 pub mod PackingTheorems
+pub mod PackingAnswers
 pub mod CarriedPackings
 pub mod Model
 pub mod Runs
