@@ -15,8 +15,8 @@ use Rattle.plans.proofs.Latest.{latest-extent}
 use Rattle.plans.specs.Axes.{Axis, Inside, freeEdge, nearWithin, nearEdge}
 use Rattle.plans.specs.AxisTheorems.{Orderly}
 use Rattle.plans.specs.Kinds.{Kind, AtMost, SumLaws, JoinLaws, possibleSide, sideLimit, pinLimit, sumLimit}
-use Rattle.plans.specs.Packing.{Task, Pins, sideAlong, sideOf, axisOf}
-use Rattle.plans.specs.PackingTheorems.{Packable, NearPins}
+use Rattle.plans.specs.Packing.{Task, Pins, sideAlong, sideOf, axisOf, farOf}
+use Rattle.plans.specs.PackingTheorems.{Packable, NearPins, SumsWithin}
 use Rattle.plans.specs.Sequences.{countBefore}
 use Rattle.plans.specs.Tables.{tableIn}
 use Rattle.plans.specs.declared.measures.Sides.{Sides}
@@ -102,3 +102,15 @@ module _ {L : Type 0} (K : Kind L) (sum : SumLaws K) (join : JoinLaws K) (t : Ta
   pub near-inside : Inside K (axisOf K t pins g) (nearEdge K (axisOf K t pins g))
   near-inside i h =
       far-within (nearEdge K (axisOf K t pins g) i) i h (rounds-extent (t .plan .size) i h)
+
+  -- a near edge lies no further out than the sides before it reach, and the chip within the limit
+  pub sums-within : SumsWithin K t pins g
+  sums-within =
+      let near = nearEdge K (axisOf K t pins g) in
+      record {
+        near = rounds-extent (t .plan .size);
+        sums = near-inside;
+        span =
+            latest-extent K sum join (λ i. true) (farOf K t g near) (t .plan .size) sumLimit
+            (λ i h _. rw (sum .sums (near i) (sideOf K t g i) (near-inside i h)) (near-inside i h));
+      }

@@ -8,7 +8,7 @@ use lib.Dec.{eqb}
 use Rattle.std.proofs.shelf.Bits.{mul-le}
 use Rattle.std.proofs.shelf.Tests.{cases-bool, both-ways, or-parts, or-cases, or-left, or-right, or-from, eq-eqb}
 use Rattle.plans.proofs.AxisPacking.{packed-along}
-use Rattle.plans.proofs.FlatAxes.{axis-orderly, near-inside}
+use Rattle.plans.proofs.FlatAxes.{axis-orderly, near-inside, sums-within}
 use Rattle.plans.proofs.Latest.{latest-later}
 use Rattle.plans.proofs.LongestPaths.{unfixed-free, longest-along}
 use Rattle.plans.specs.Axes.{Axis, Keeps, Inside, nearEdge, stuck}
@@ -127,7 +127,7 @@ module _ {L : Type 0} (K : Kind L) (sum : SumLaws K) (join : JoinLaws K) (t : Ta
     pub packed-plan : PackedPlan K t pins
     packed-plan =
         record {
-          within = λ g i edge h. near-inside K sum join t ok pins close g edge i h;
+          within = sums-within K sum join t ok pins close;
           least = packed-least;
           none = packed-none;
           only = λ none.

@@ -11,3 +11,4 @@ pub mod PackRefusals
 pub mod PackingLaws
 pub mod CarriedPackings
 pub mod PackingAnswers
+pub mod SequenceWalk
