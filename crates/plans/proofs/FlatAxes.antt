@@ -1,9 +1,8 @@
 -- The axes of a floorplan that is packed: orderly, and every sum within the limit.
 use Prim.Native.Nat.{ℕ, zero, suc, _+_, _*_, _≤_, _<_}
 use native.Mathlib.Omega.{arith}
-use mathlib.Core.Path.{_≡_, refl, sym, _∙_, ap}
-use mathlib.Core.Bool.{Bool, true, false, cond, not, _&&_}
-use mathlib.Core.Logic.{_⊎_, inl, inr}
+use mathlib.Core.Path.{_≡_, refl}
+use mathlib.Core.Bool.{Bool, true, cond, _&&_}
 use lib.Dec.{eqb, leb}
 use lib.ListN.{getD}
 use Rattle.std.specs.Options.{valueOr}
@@ -12,9 +11,9 @@ use Rattle.std.specs.declared.option.Option.the-variants.{Some, None}
 use Rattle.std.proofs.shelf.Tests.{cond-both, not-false, and-parts, leb-true, eqb-true, eq-eqb, ne-eqb}
 use Rattle.plans.proofs.AxisPacking.{fewer-before, some-not-before}
 use Rattle.plans.proofs.Latest.{latest-extent}
-use Rattle.plans.specs.Axes.{Axis, Inside, freeEdge, nearWithin, nearEdge}
+use Rattle.plans.specs.Axes.{Inside, freeEdge, nearWithin, nearEdge}
 use Rattle.plans.specs.AxisTheorems.{Orderly}
-use Rattle.plans.specs.Kinds.{Kind, AtMost, SumLaws, JoinLaws, possibleSide, sideLimit, pinLimit, sumLimit}
+use Rattle.plans.specs.Kinds.{Kind, SumLaws, JoinLaws, possibleSide, sideLimit, pinLimit, sumLimit}
 use Rattle.plans.specs.Packing.{Task, Pins, sideAlong, sideOf, axisOf, farOf}
 use Rattle.plans.specs.PackingTheorems.{Packable, NearPins, SumsWithin}
 use Rattle.plans.specs.Sequences.{countBefore}
@@ -35,7 +34,9 @@ module _ {L : Type 0} (K : Kind L) (t : Task L) (ok : Packable K t) where
   pub side-possible : (g i : ℕ) → i < t .plan .size → possibleSide K (sideOf K t g i) ≡ true
   side-possible g i h =
       let s = getD (t .sides) i (record { width = K .origin; height = K .origin }) in
-      let both = and-parts (possibleSide K (s .width)) (possibleSide K (s .height)) (not-false (possibleSide K (s .width) && possibleSide K (s .height)) (ok .possible i h)) in
+      let w = possibleSide K (s .width) in
+      let u = possibleSide K (s .height) in
+      let both = and-parts w u (not-false (w && u) (ok .possible i h)) in
       either-side (λ v. possibleSide K v ≡ true) g (t .rotated i) s (both .0) (both .1)
 
   side-extent : (g i : ℕ) → i < t .plan .size → K .reach (sideOf K t g i) ≤ sideLimit

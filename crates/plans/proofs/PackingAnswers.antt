@@ -1,29 +1,26 @@
 -- The answers of the three packing calls: an answered chip with its list shows the least placement.
-use Prim.Native.Nat.{ℕ, _+_, _-_, _≤_, _<_}
+use Prim.Native.Nat.{ℕ, _-_, _≤_}
 use native.Mathlib.Omega.{arith}
-use mathlib.Core.Path.{_≡_, refl, sym, _∙_, ap}
+use mathlib.Core.Path.{_≡_, refl, _∙_, ap}
 use mathlib.Core.Bool.{Bool, true, false, cond, _||_}
-use mathlib.Core.List.{List, map, _++_}
-use mathlib.Core.Logic.{_⊎_, inl, inr}
+use mathlib.Core.List.{List, map}
 use lib.Dec.{ltb, leb}
 use lib.ListN.{length, getD, drop}
 use Rattle.std.specs.Iters.{counting}
 use Rattle.std.specs.Options.{mapped}
 use Rattle.std.specs.declared.option.Option.{Option}
 use Rattle.std.specs.declared.option.Option.the-variants.{Some, None}
-use Rattle.std.specs.declared.result.Result.{Result}
 use Rattle.std.specs.declared.result.Result.the-variants.{Ok, Err}
 use Rattle.std.proofs.shelf.Counted.{length-map-counting, getD-map-counting}
 use Rattle.std.proofs.shelf.Lists.{length-append, length-drop, getD-append-left, getD-append-right, getD-drop}
-use Rattle.std.proofs.shelf.Tests.{cases-bool, both-ways}
 use Rattle.plans.proofs.PackRefusals.{not-refused-packable, not-refused-pinned, not-refused-rotated}
 use Rattle.plans.proofs.PackingLaws.{pack-law, pinned-law, rotated-law}
 use Rattle.plans.specs.Kinds.{Kind, Lawful, pinLimit}
-use Rattle.plans.specs.Packing.{Task, Pins, noPins, onePin, packedModule, packedChip, packedList}
+use Rattle.plans.specs.Packing.{Task, Pins, noPins, onePin, packedModule, packedList}
 use Rattle.plans.specs.PackingAnswers.{ShowsPlacement, ShowsLeast, PinnedAnswered}
 use Rattle.plans.specs.PackingCalls.{Outcome, packRefusal, pinRefusal, rotationRefusal, noPlace, refusedOr, packedOutcome, after-pack, after-pack-pinned, after-pack-rotated}
 use Rattle.plans.specs.PackingTheorems.{packedPlacement, rotatedTask}
-use Rattle.plans.specs.Placements.{LeastPlacement, NoPlacement, ByLongestPaths}
+use Rattle.plans.specs.Placements.{LeastPlacement, ByLongestPaths}
 use Rattle.plans.specs.Search.{orElse, refusing}
 use Rattle.plans.specs.Tables.{Feasible}
 use Rattle.plans.specs.declared.measures.Placed.{Placed}
@@ -107,8 +104,9 @@ module _ {L : Type 0} (K : Kind L) (law : Lawful K) (t : Task L) (feasible : Fea
       × ByLongestPaths K t noPins (packedPlacement K t noPins)
   pack-answers chip answer =
       let q = answered-not-refused K (packRefusal K t results) results (packedOutcome K t noPins results) chip answer in
-      let packed = pack-law K law t feasible results (q .0) in (
-        outcome-shows K t noPins results (after-pack K t results) chip (not-refused-packable K t results feasible (q .0) .1) (packed .least) (q .1) answer,
+      let packed = pack-law K law t feasible results (q .0) in
+      let room = not-refused-packable K t results feasible (q .0) .1 in (
+        outcome-shows K t noPins results (after-pack K t results) chip room (packed .least) (q .1) answer,
         packed .longest,
       )
 
@@ -116,9 +114,10 @@ module _ {L : Type 0} (K : Kind L) (law : Lawful K) (t : Task L) (feasible : Fea
       (a : ℕ) (chip : Chip L) → after-pack-rotated K t results a .answer ≡ Ok chip
       → ShowsLeast K (rotatedTask t a) noPins results (after-pack-rotated K t results a .results) chip
   rotated-answers a chip answer =
-      let q = answered-not-refused K (rotationRefusal K t results a) results (packedOutcome K (rotatedTask t a) noPins results) chip answer in
-      let none = not-refused-rotated K t results a (q .0) .0 in
-      outcome-shows K (rotatedTask t a) noPins results (after-pack-rotated K t results a) chip (not-refused-packable K t results feasible none .1)
+      let packed = packedOutcome K (rotatedTask t a) noPins results in
+      let q = answered-not-refused K (rotationRefusal K t results a) results packed chip answer in
+      let room = not-refused-packable K t results feasible (not-refused-rotated K t results a (q .0) .0) .1 in
+      outcome-shows K (rotatedTask t a) noPins results (after-pack-rotated K t results a) chip room
       (rotated-law K law t feasible results a (q .0) .least) (q .1) answer
 
   -- pack with a module pinned
@@ -129,6 +128,7 @@ module _ {L : Type 0} (K : Kind L) (law : Lawful K) (t : Task L) (feasible : Fea
     abbrev nowhere : Outcome L PinnedRefusal
     nowhere = record { answer = Err NoPlace; results = packedList K t noPins results }
 
+    -- what an answered chip and "no place" tell
     chip-told :
         (chip : Chip L) → after-pack-pinned K t results a across up .answer ≡ Ok chip
         → (pinRefusal K t results a across up ≡ None) × (noPlace K t pins ≡ false)
@@ -146,6 +146,7 @@ module _ {L : Type 0} (K : Kind L) (law : Lawful K) (t : Task L) (feasible : Fea
         (other-refusals (packRefusal K t results) (leb (t .plan .size) a) (ltb pinLimit (K .reach across) || ltb pinLimit (K .reach up)))
         (λ h. let z : _≡_ {A = ℕ} 0 1 = cc in omega arith) answer
 
+    -- there is room for the results
     room : pinRefusal K t results a across up ≡ None → t .plan .size ≤ length results
     room none = not-refused-packable K t results feasible (not-refused-pinned K t results a across up none .0) .1
 

@@ -1,8 +1,7 @@
 -- Near edges along the packing sequence: what stands before a module has an earlier place.
-use Prim.Native.Nat.{ℕ, _≤_, _<_}
+use Prim.Native.Nat.{ℕ, _<_}
 use native.Mathlib.Omega.{arith}
-use mathlib.Core.Path.{_≡_, refl, sym, _∙_, ap}
-use mathlib.Core.Bool.{Bool, true, false}
+use mathlib.Core.Path.{_≡_, sym, _∙_, ap}
 use mathlib.Core.List.{List}
 use lib.ListN.{length, getD, take}
 use Rattle.std.specs.Options.{valueOr}
@@ -11,7 +10,7 @@ use Rattle.std.proofs.shelf.Tests.{eqb-true}
 use Rattle.plans.proofs.AxisPacking.{near-settled}
 use Rattle.plans.proofs.FlatAxes.{axis-orderly}
 use Rattle.plans.proofs.Latest.{latest-along}
-use Rattle.plans.specs.Axes.{Axis, freeEdge}
+use Rattle.plans.specs.Axes.{freeEdge}
 use Rattle.plans.specs.Kinds.{Kind, SumLaws, JoinLaws}
 use Rattle.plans.specs.LaterOfTwo.{latestOnto}
 use Rattle.plans.specs.Packing.{Task, Pins, axisOf, farOf, packedEdge}

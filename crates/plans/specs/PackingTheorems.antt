@@ -1,10 +1,9 @@
 -- What packing a floorplan promises, for every kind of length: the least placement, longest paths, "no place".
 use Prim.Native.Nat.{ℕ, _+_, _*_, _≤_, _<_}
 use mathlib.Core.Path.{_≡_}
-use mathlib.Core.Bool.{Bool, true, false}
+use mathlib.Core.Bool.{true, false}
 use mathlib.Core.List.{List}
 use lib.ListN.{length}
-use Rattle.std.specs.declared.option.Option.{Option}
 use Rattle.std.specs.declared.option.Option.the-variants.{Some, None}
 use Rattle.plans.specs.Kinds.{Kind, SumLaws, JoinLaws, Lawful, sideLimit, pinLimit, sumLimit}
 use Rattle.plans.specs.Packing.{Task, Pins, noPins, onePin, rotatedOnce, sideOf, axisOf, spanOf, packedEdge}
