@@ -1,18 +1,18 @@
 -- Packing along one axis is least: by the number of modules before each, with no sequence.
-use Prim.Native.Nat.{ℕ, zero, suc, _+_, _≤_, _<_}
+use Prim.Native.Nat.{ℕ, zero, suc, _<_}
 use native.Mathlib.Omega.{arith}
-use mathlib.Core.Path.{_≡_, refl, sym, _∙_, ap}
-use mathlib.Core.Bool.{Bool, true, false, cond, not}
-use mathlib.Core.Logic.{_⊎_, inl, inr}
+use mathlib.Core.Path.{_≡_, refl, _∙_, ap}
+use mathlib.Core.Bool.{true, false}
+use mathlib.Core.Logic.{inl, inr}
 use Rattle.std.specs.Options.{valueOr}
 use Rattle.std.specs.declared.option.Option.{Option}
 use Rattle.std.specs.declared.option.Option.the-variants.{Some, None}
 use Rattle.std.proofs.shelf.Tests.{cases-bool, both-ways, not-false, not-true}
 use Rattle.plans.proofs.Latest.{latest-same, latest-covers, latest-least}
-use Rattle.plans.proofs.Searches.{some-tells, some-from, count-le, count-less}
-use Rattle.plans.specs.Axes.{Axis, Keeps, Inside, LeastAlong, latest, freeEdge, nearWithin, nearEdge, pushed, stuck}
+use Rattle.plans.proofs.Searches.{some-tells, count-le, count-less}
+use Rattle.plans.specs.Axes.{Axis, Keeps, Inside, freeEdge, nearWithin, nearEdge, pushed, stuck}
 use Rattle.plans.specs.AxisTheorems.{Orderly, NoneAlong, PackedAlong}
-use Rattle.plans.specs.Kinds.{Kind, AtMost, SumLaws, JoinLaws, sumLimit}
+use Rattle.plans.specs.Kinds.{Kind, AtMost, SumLaws, JoinLaws}
 use Rattle.plans.specs.Sequences.{countBefore}
 
 module _ {L : Type 0} (K : Kind L) (x : Axis L) (law : Orderly K x) where
@@ -38,7 +38,8 @@ module _ {L : Type 0} (K : Kind L) (x : Axis L) (law : Orderly K x) where
   rounds-settle (suc n) zero i h a b = absurd (omega arith)
   rounds-settle (suc n) (suc k) i h a b =
       ap (λ v. valueOr (x .fixed i) v)
-      (latest-same K (λ j. x .before j i) (λ j. x .before j i) (λ j. x .step j (nearWithin K x n j)) (λ j. x .step j (nearWithin K x k j)) (x .size)
+      (latest-same K (λ j. x .before j i) (λ j. x .before j i)
+      (λ j. x .step j (nearWithin K x n j)) (λ j. x .step j (nearWithin K x k j)) (x .size)
       (λ j g. refl)
       (λ j g c.
       let less = fewer-before j i g h c in

@@ -1,29 +1,27 @@
 -- A map of lengths that keeps zero, sums and the later of two carries packings along.
-use Prim.Native.Nat.{ℕ, zero, suc, _+_, _*_, _≤_, _<_}
+use Prim.Native.Nat.{ℕ, zero, suc, _*_}
 use native.Mathlib.Omega.{arith}
 use mathlib.Core.Path.{_≡_, refl, sym, _∙_, ap, ap₂, fun-ext}
 use mathlib.Core.Bool.{Bool, true, false, cond, not, _&&_}
 use mathlib.Core.List.{List, [], _∷_, _++_, map, map-map}
-use mathlib.Core.Logic.{_⊎_, inl, inr}
 use lib.Dec.{eqb, leb, ltb}
 use lib.ListN.{length, getD, drop}
 use Rattle.std.specs.Iters.{counting}
 use Rattle.std.specs.Options.{valueOr, mapped}
 use Rattle.std.specs.declared.option.Option.{Option}
 use Rattle.std.specs.declared.option.Option.the-variants.{Some, None}
-use Rattle.std.specs.declared.result.Result.the-variants.{Ok, Err}
+use Rattle.std.specs.declared.result.Result.the-variants.{Ok}
 use Rattle.std.proofs.shelf.Lists.{map-append, length-map, drop-map}
 use Rattle.std.proofs.shelf.Ways.{tells}
-use Rattle.plans.specs.Axes.{Axis, latest, freeEdge, nearWithin}
+use Rattle.plans.specs.Axes.{Axis, latest, freeEdge, nearWithin, nearEdge}
 use Rattle.plans.specs.CarriedPackings.{Carries, PacksCarried, carrySides, carryTask, carryPins, carryPlaced, carryChip, carryOutcome}
 use Rattle.plans.specs.Kinds.{Kind, Count, countAtMost, plainKind, countedKind, possibleSide}
 use Rattle.plans.specs.Packing.{Task, Pins, noPins, sideAlong, sideOf, axisOf, farOf, spanOf, packedEdge, packedModule, packedChip, packedList}
-use Rattle.plans.specs.PackingCalls.{Outcome, wrongSide, packRefusal, refusedOr, packedOutcome, after-pack, after-pack-rotated, rotationRefusal}
+use Rattle.plans.specs.PackingCalls.{wrongSide, packRefusal, refusedOr, packedOutcome, rotationRefusal}
 use Rattle.plans.specs.PackingTheorems.{rotatedTask}
 use Rattle.plans.specs.Search.{firstBelow, orElse, refusing}
 use Rattle.plans.specs.declared.measures.Sides.{Sides}
 use Rattle.plans.specs.declared.measures.Placed.{Placed}
-use Rattle.plans.specs.declared.measures.Chip.{Chip}
 use Rattle.plans.specs.declared.pack_refusals.PackRefusal.the-variants.{WrongSides, ShortResults, WrongSide}
 use Rattle.plans.specs.declared.pack_refusals.RotationRefusal.the-variants as rotation
 
@@ -85,36 +83,43 @@ module _ {L M : Type 0} (K : Kind L) (N : Kind M) (h : L → M) (law : Carries K
         carried-latest (λ i. true) (farOf K t g e) (farOf N (carryTask h t) g e′) (λ i. carried-far g e e′ i (same i)) (t .plan .size)
 
     module _ (pins : Pins L) where
-      carried-rounds :
-          (g n i : ℕ)
-          → nearWithin N (axisOf N (carryTask h t) (carryPins h pins) g) n i ≡ h (nearWithin K (axisOf K t pins g) n i)
+      -- the axis of a graph in both kinds
+      abbrev here : ℕ → Axis L
+      here g = axisOf K t pins g
+
+      abbrev there : ℕ → Axis M
+      there g = axisOf N (carryTask h t) (carryPins h pins) g
+
+      -- near edges are carried, round by round
+      carried-rounds : (g n i : ℕ) → nearWithin N (there g) n i ≡ h (nearWithin K (here g) n i)
       carried-rounds g zero i = sym (law .zero)
       carried-rounds g (suc n) i =
-          let free : freeEdge N (axisOf N (carryTask h t) (carryPins h pins) g) (nearWithin N (axisOf N (carryTask h t) (carryPins h pins) g) n) i ≡ h (freeEdge K (axisOf K t pins g) (nearWithin K (axisOf K t pins g) n) i) =
-          carried-latest (λ j. axisOf K t pins g .before j i)
-          (farOf K t g (nearWithin K (axisOf K t pins g) n))
-          (farOf N (carryTask h t) g (nearWithin N (axisOf N (carryTask h t) (carryPins h pins) g) n))
-          (λ j. carried-far g (nearWithin K (axisOf K t pins g) n) (nearWithin N (axisOf N (carryTask h t) (carryPins h pins) g) n) j (carried-rounds g n j))
-          (t .plan .size) in
-          rw free (carried-value h (pins g i) (freeEdge K (axisOf K t pins g) (nearWithin K (axisOf K t pins g) n) i))
+          let near = nearWithin K (here g) n in
+          let carried = nearWithin N (there g) n in
+          let free : freeEdge N (there g) carried i ≡ h (freeEdge K (here g) near i) =
+          carried-latest (λ j. here g .before j i) (farOf K t g near) (farOf N (carryTask h t) g carried)
+          (λ j. carried-far g near carried j (carried-rounds g n j)) (t .plan .size) in
+          rw free (carried-value h (pins g i) (freeEdge K (here g) near i))
 
       carried-near : (g i : ℕ) → packedEdge N (carryTask h t) (carryPins h pins) g i ≡ h (packedEdge K t pins g i)
       carried-near g i = carried-rounds g (t .plan .size) i
 
-      carried-module : (i : ℕ) → packedModule N (carryTask h t) (carryPins h pins) i ≡ carryPlaced h (packedModule K t pins i)
+      -- and with them far edges, and the chip
+      carried-module :
+          (i : ℕ) → packedModule N (carryTask h t) (carryPins h pins) i ≡ carryPlaced h (packedModule K t pins i)
       carried-module i =
           let left = carried-near 1 i in
           let bottom = carried-near 2 i in
-          let right = carried-far 1 (packedEdge K t pins 1) (packedEdge N (carryTask h t) (carryPins h pins) 1) i left in
-          let top = carried-far 2 (packedEdge K t pins 2) (packedEdge N (carryTask h t) (carryPins h pins) 2) i bottom in
+          let right = carried-far 1 (nearEdge K (here 1)) (nearEdge N (there 1)) i left in
+          let top = carried-far 2 (nearEdge K (here 2)) (nearEdge N (there 2)) i bottom in
           λ k. record { left = left k; bottom = bottom k; right = right k; top = top k }
 
       carried-chip : packedChip N (carryTask h t) (carryPins h pins) ≡ carryChip h (packedChip K t pins)
       carried-chip =
-          let width = carried-span 1 (packedEdge K t pins 1) (packedEdge N (carryTask h t) (carryPins h pins) 1) (carried-near 1) in
-          let height = carried-span 2 (packedEdge K t pins 2) (packedEdge N (carryTask h t) (carryPins h pins) 2) (carried-near 2) in
-          let across = ap (λ v. N .reach v) width ∙ law .extents (spanOf K t 1 (packedEdge K t pins 1)) in
-          let up = ap (λ v. N .reach v) height ∙ law .extents (spanOf K t 2 (packedEdge K t pins 2)) in
+          let width = carried-span 1 (nearEdge K (here 1)) (nearEdge N (there 1)) (carried-near 1) in
+          let height = carried-span 2 (nearEdge K (here 2)) (nearEdge N (there 2)) (carried-near 2) in
+          let across = ap (λ v. N .reach v) width ∙ law .extents (spanOf K t 1 (nearEdge K (here 1))) in
+          let up = ap (λ v. N .reach v) height ∙ law .extents (spanOf K t 2 (nearEdge K (here 2))) in
           λ k. record { width = width k; height = height k; area = across k * up k }
 
       carried-list :

@@ -1,9 +1,8 @@
 -- The axes of a floorplan that is packed: orderly, and every sum within the limit.
 use Prim.Native.Nat.{ℕ, zero, suc, _+_, _*_, _≤_, _<_}
 use native.Mathlib.Omega.{arith}
-use mathlib.Core.Path.{_≡_, refl, sym, _∙_, ap}
-use mathlib.Core.Bool.{Bool, true, false, cond, not, _&&_}
-use mathlib.Core.Logic.{_⊎_, inl, inr}
+use mathlib.Core.Path.{_≡_, refl}
+use mathlib.Core.Bool.{Bool, true, cond, _&&_}
 use lib.Dec.{eqb, leb}
 use lib.ListN.{getD}
 use Rattle.std.specs.Options.{valueOr}
@@ -12,11 +11,11 @@ use Rattle.std.specs.declared.option.Option.the-variants.{Some, None}
 use Rattle.std.proofs.shelf.Tests.{cond-both, not-false, and-parts, leb-true, eqb-true, eq-eqb, ne-eqb}
 use Rattle.plans.proofs.AxisPacking.{fewer-before, some-not-before}
 use Rattle.plans.proofs.Latest.{latest-extent}
-use Rattle.plans.specs.Axes.{Axis, Inside, freeEdge, nearWithin, nearEdge}
+use Rattle.plans.specs.Axes.{Inside, freeEdge, nearWithin, nearEdge}
 use Rattle.plans.specs.AxisTheorems.{Orderly}
-use Rattle.plans.specs.Kinds.{Kind, AtMost, SumLaws, JoinLaws, possibleSide, sideLimit, pinLimit, sumLimit}
-use Rattle.plans.specs.Packing.{Task, Pins, sideAlong, sideOf, axisOf}
-use Rattle.plans.specs.PackingTheorems.{Packable, NearPins}
+use Rattle.plans.specs.Kinds.{Kind, SumLaws, JoinLaws, possibleSide, sideLimit, pinLimit, sumLimit}
+use Rattle.plans.specs.Packing.{Task, Pins, sideAlong, sideOf, axisOf, farOf}
+use Rattle.plans.specs.PackingTheorems.{Packable, NearPins, SumsWithin}
 use Rattle.plans.specs.Sequences.{countBefore}
 use Rattle.plans.specs.Tables.{tableIn}
 use Rattle.plans.specs.declared.measures.Sides.{Sides}
@@ -35,7 +34,9 @@ module _ {L : Type 0} (K : Kind L) (t : Task L) (ok : Packable K t) where
   pub side-possible : (g i : ℕ) → i < t .plan .size → possibleSide K (sideOf K t g i) ≡ true
   side-possible g i h =
       let s = getD (t .sides) i (record { width = K .origin; height = K .origin }) in
-      let both = and-parts (possibleSide K (s .width)) (possibleSide K (s .height)) (not-false (possibleSide K (s .width) && possibleSide K (s .height)) (ok .possible i h)) in
+      let w = possibleSide K (s .width) in
+      let u = possibleSide K (s .height) in
+      let both = and-parts w u (not-false (w && u) (ok .possible i h)) in
       either-side (λ v. possibleSide K v ≡ true) g (t .rotated i) s (both .0) (both .1)
 
   side-extent : (g i : ℕ) → i < t .plan .size → K .reach (sideOf K t g i) ≤ sideLimit
@@ -102,3 +103,15 @@ module _ {L : Type 0} (K : Kind L) (sum : SumLaws K) (join : JoinLaws K) (t : Ta
   pub near-inside : Inside K (axisOf K t pins g) (nearEdge K (axisOf K t pins g))
   near-inside i h =
       far-within (nearEdge K (axisOf K t pins g) i) i h (rounds-extent (t .plan .size) i h)
+
+  -- a near edge lies no further out than the sides before it reach, and the chip within the limit
+  pub sums-within : SumsWithin K t pins g
+  sums-within =
+      let near = nearEdge K (axisOf K t pins g) in
+      record {
+        near = rounds-extent (t .plan .size);
+        sums = near-inside;
+        span =
+            latest-extent K sum join (λ i. true) (farOf K t g near) (t .plan .size) sumLimit
+            (λ i h _. rw (sum .sums (near i) (sideOf K t g i) (near-inside i h)) (near-inside i h));
+      }

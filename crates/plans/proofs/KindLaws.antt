@@ -1,13 +1,12 @@
 -- The laws of kinds of length: the later of two is a least upper bound, and plain and counted lengths are lawful.
-use Prim.Native.Nat.{ℕ, _+_, _≤_, _<_, max}
+use Prim.Native.Nat.{_≤_, _<_, max}
 use native.Mathlib.Omega.{arith}
-use mathlib.Core.Path.{_≡_, refl, sym, _∙_, ap}
-use mathlib.Core.Bool.{Bool, true, false, cond, _&&_, _||_}
+use mathlib.Core.Path.{_≡_, refl}
+use mathlib.Core.Bool.{Bool, true, false}
 use mathlib.Core.Logic.{_⊎_, inl, inr}
-use lib.Dec.{eqb, leb, ltb}
 use Rattle.std.proofs.shelf.Ways.{tells}
-use Rattle.plans.specs.Kinds.{Kind, AtMost, SumLaws, TotalLaws, JoinLaws, Lawful, Count, countAtMost, plainKind, countedKind, sideLimit, sumLimit, possibleSide}
-use Rattle.plans.specs.LaterOfTwo.{Picks, LaterLaws}
+use Rattle.plans.specs.Kinds.{Kind, AtMost, SumLaws, TotalLaws, Lawful, Count, countAtMost, plainKind, countedKind}
+use Rattle.plans.specs.LaterOfTwo.{LaterLaws}
 
 module _ {L : Type 0} (K : Kind L) (sum : SumLaws K) (total : TotalLaws K) where
   -- a fact of two lengths, by which of them is at most the other
@@ -24,8 +23,12 @@ module _ {L : Type 0} (K : Kind L) (sum : SumLaws K) (total : TotalLaws K) where
         join = record {
           left = by-order (λ a b. AtMost K a (K .later a b)) (λ a b h e. rw e h) (λ a b h e. rw e (sum .reflexive a));
           right = by-order (λ a b. AtMost K b (K .later a b)) (λ a b h e. rw e (sum .reflexive b)) (λ a b h e. rw e h);
-          least = λ a b c h k. by-order (λ a b. AtMost K a c → AtMost K b c → AtMost K (K .later a b) c) (λ a b l e h k. rw e k) (λ a b l e h k. rw e h) a b h k;
-          extents = by-order (λ a b. K .reach (K .later a b) ≡ max (K .reach a) (K .reach b)) (λ a b h e. rw e (omega (arith, sum .wider a b h))) (λ a b h e. rw e (omega (arith, sum .wider b a h)));
+          least = λ a b c h k.
+              by-order (λ a b. AtMost K a c → AtMost K b c → AtMost K (K .later a b) c)
+              (λ a b l e h k. rw e k) (λ a b l e h k. rw e h) a b h k;
+          extents =
+              by-order (λ a b. K .reach (K .later a b) ≡ max (K .reach a) (K .reach b))
+              (λ a b h e. rw e (omega (arith, sum .wider a b h))) (λ a b h e. rw e (omega (arith, sum .wider b a h)));
         };
         picks = by-order (λ a b. (K .later a b ≡ a) ⊎ (K .later a b ≡ b)) (λ a b h e. inr e) (λ a b h e. inl e);
       }

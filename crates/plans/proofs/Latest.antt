@@ -1,7 +1,7 @@
 -- The latest of the lengths of the chosen numbers below a bound: their least upper bound, in whatever order it is taken.
-use Prim.Native.Nat.{ℕ, zero, suc, _+_, _≤_, _<_, max}
+use Prim.Native.Nat.{ℕ, zero, suc, _≤_, _<_}
 use native.Mathlib.Omega.{arith}
-use mathlib.Core.Path.{_≡_, refl, sym, _∙_, ap}
+use mathlib.Core.Path.{_≡_, refl, _∙_}
 use mathlib.Core.Bool.{Bool, true, false, cond}
 use mathlib.Core.List.{List, [], _∷_}
 use mathlib.Core.Logic.{_⊎_, inl, inr}
@@ -45,8 +45,9 @@ module _ {L : Type 0} (K : Kind L) (sum : SumLaws K) (join : JoinLaws K) (chosen
             let ih = latest-covers n j (omega (arith, other)) c in
             elim (cases-bool (chosen n)) [
               | inl t ↦
+                  let others = latest K chosen f n in
                   rw (latest-taken K chosen f n t)
-                  (sum .transitive (f j) (latest K chosen f n) (K .later (latest K chosen f n) (f n)) ih (join .left (latest K chosen f n) (f n)))
+                  (sum .transitive (f j) others (K .later others (f n)) ih (join .left others (f n)))
               | inr t ↦ rw (latest-passed K chosen f n t) ih
             ]
       ]

@@ -1,24 +1,23 @@
 -- The packing of a floorplan is its least placement, and there is "no place" exactly where there is no placement.
-use Prim.Native.Nat.{ℕ, zero, suc, _+_, _*_, _≤_, _<_}
+use Prim.Native.Nat.{ℕ, _<_}
 use native.Mathlib.Omega.{arith}
-use mathlib.Core.Path.{_≡_, refl, sym, _∙_, ap}
-use mathlib.Core.Bool.{Bool, true, false, cond, _||_}
+use mathlib.Core.Path.{_≡_, refl}
+use mathlib.Core.Bool.{true, false}
 use mathlib.Core.Logic.{_⊎_, inl, inr, _≢_}
-use lib.Dec.{eqb}
 use Rattle.std.proofs.shelf.Bits.{mul-le}
 use Rattle.std.proofs.shelf.Tests.{cases-bool, both-ways, or-parts, or-cases, or-left, or-right, or-from, eq-eqb}
 use Rattle.plans.proofs.AxisPacking.{packed-along}
-use Rattle.plans.proofs.FlatAxes.{axis-orderly, near-inside}
+use Rattle.plans.proofs.FlatAxes.{axis-orderly, near-inside, sums-within}
 use Rattle.plans.proofs.Latest.{latest-later}
 use Rattle.plans.proofs.LongestPaths.{unfixed-free, longest-along}
-use Rattle.plans.specs.Axes.{Axis, Keeps, Inside, nearEdge, stuck}
-use Rattle.plans.specs.AxisTheorems.{Orderly, NoneAlong, PackedAlong, LongestAlong}
-use Rattle.plans.specs.Kinds.{Kind, AtMost, SumLaws, JoinLaws, sumLimit}
+use Rattle.plans.specs.Axes.{Keeps, Inside, stuck}
+use Rattle.plans.specs.AxisTheorems.{PackedAlong, LongestAlong}
+use Rattle.plans.specs.Kinds.{Kind, AtMost, SumLaws, JoinLaws}
 use Rattle.plans.specs.LaterOfTwo.{LaterLaws}
-use Rattle.plans.specs.Packing.{Task, Pins, noPins, sideOf, axisOf, farOf, spanOf, chipOf, packedEdge}
+use Rattle.plans.specs.Packing.{Task, Pins, noPins, sideOf, axisOf, farOf, spanOf}
 use Rattle.plans.specs.PackingCalls.{noPlace}
 use Rattle.plans.specs.PackingTheorems.{Packable, NearPins, packedPlacement, PackedPlan, PackedFreely}
-use Rattle.plans.specs.Placements.{Placement, KeepsPlan, InsidePlan, Overlap, clear, NoLater, LeastPlacement, NoPlacement, ByLongestPaths}
+use Rattle.plans.specs.Placements.{Placement, KeepsPlan, InsidePlan, Overlap, clear, NoLater, LeastPlacement, NoPlacement}
 use Rattle.plans.specs.Tables.{tableIn}
 
 module _ {L : Type 0} (K : Kind L) (t : Task L) (pins : Pins L) where
@@ -127,7 +126,7 @@ module _ {L : Type 0} (K : Kind L) (sum : SumLaws K) (join : JoinLaws K) (t : Ta
     pub packed-plan : PackedPlan K t pins
     packed-plan =
         record {
-          within = λ g i edge h. near-inside K sum join t ok pins close g edge i h;
+          within = sums-within K sum join t ok pins close;
           least = packed-least;
           none = packed-none;
           only = λ none.

@@ -33,3 +33,5 @@ pub mod CarriedPackings
 pub mod ModelLaw
 pub mod ChangeFirst
 pub mod PackFirst
+pub mod PackingAnswers
+pub mod SequenceWalk

@@ -1,18 +1,14 @@
 -- Near edges along one axis are longest paths: no path exceeds them, and one is as long.
-use Prim.Native.Nat.{ℕ, zero, suc, _+_, _≤_, _<_}
-use native.Mathlib.Omega.{arith}
+use Prim.Native.Nat.{ℕ, zero, suc, _<_}
 use mathlib.Core.Path.{_≡_, refl, sym, _∙_, ap}
-use mathlib.Core.Bool.{Bool, true, false, cond}
+use mathlib.Core.Bool.{true, false}
 use mathlib.Core.List.{List, [], _∷_, _++_}
-use mathlib.Core.Logic.{_⊎_, inl, inr}
-use Rattle.std.specs.Options.{valueOr}
-use Rattle.std.specs.declared.option.Option.{Option}
-use Rattle.std.specs.declared.option.Option.the-variants.{Some, None}
+use mathlib.Core.Logic.{inl, inr}
 use Rattle.plans.proofs.AxisPacking.{packed-along}
 use Rattle.plans.proofs.Latest.{latest-picks}
-use Rattle.plans.specs.Axes.{Axis, Keeps, Inside, Leads, LongestPaths, LongestPath, latest, freeEdge, nearWithin, nearEdge, pathFrom, pushed, stuck}
+use Rattle.plans.specs.Axes.{Axis, Keeps, Inside, Leads, freeEdge, nearWithin, nearEdge, pathFrom, pushed, stuck}
 use Rattle.plans.specs.AxisTheorems.{Orderly, Unfixed, LongestAlong}
-use Rattle.plans.specs.Kinds.{Kind, AtMost, SumLaws, JoinLaws, sumLimit}
+use Rattle.plans.specs.Kinds.{Kind, AtMost, SumLaws}
 use Rattle.plans.specs.LaterOfTwo.{Picks, LaterLaws}
 use Rattle.plans.proofs.Searches.{none-from}
 

@@ -22,7 +22,8 @@ module _ {L : Type 0} (K : Kind L) (law : Lawful K) (t : Task L) (feasible : Fea
       (a : ℕ) (across up : L) → pinRefusal K t results a across up ≡ None → PackedPlan K t (onePin a across up)
   pinned-law a across up none =
       let q = not-refused-pinned K t results a across up none in
-      packed-plan K (law .sum) (later-laws K (law .sum) (law .total) .join) t (onePin a across up) (not-refused-packable K t results feasible (q .0) .0) (q .2)
+      let ok = not-refused-packable K t results feasible (q .0) .0 in
+      packed-plan K (law .sum) (later-laws K (law .sum) (law .total) .join) t (onePin a across up) ok (q .2)
 
 -- with another module rotated the refusals are the same
 pub rotated-law :

@@ -5,7 +5,7 @@ use mathlib.Core.List.{List, map}
 use Rattle.std.specs.Options.{mapped}
 use Rattle.std.specs.declared.result.Result.{Result}
 use Rattle.std.specs.declared.result.Result.the-variants.{Ok, Err}
-use Rattle.plans.specs.Kinds.{Kind, Count, plainKind, countedKind}
+use Rattle.plans.specs.Kinds.{Kind, plainKind, countedKind}
 use Rattle.plans.specs.Packing.{Task, Pins, packedEdge, packedModule, packedChip, packedList}
 use Rattle.plans.specs.PackingCalls.{Outcome, after-pack, after-pack-rotated}
 use Rattle.plans.specs.declared.measures.Sides.{Sides}

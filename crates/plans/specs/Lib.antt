@@ -26,6 +26,7 @@ pub mod PackingCalls
 pub mod RefusalLaws
 pub mod Placements
 pub mod PackingTheorems
+pub mod PackingAnswers
 pub mod CarriedPackings
 pub mod Model
 pub mod Runs

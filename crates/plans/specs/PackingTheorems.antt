@@ -1,16 +1,15 @@
 -- What packing a floorplan promises, for every kind of length: the least placement, longest paths, "no place".
 use Prim.Native.Nat.{ℕ, _+_, _*_, _≤_, _<_}
 use mathlib.Core.Path.{_≡_}
-use mathlib.Core.Bool.{Bool, true, false}
+use mathlib.Core.Bool.{true, false}
 use mathlib.Core.List.{List}
 use lib.ListN.{length}
-use Rattle.std.specs.declared.option.Option.{Option}
 use Rattle.std.specs.declared.option.Option.the-variants.{Some, None}
-use Rattle.plans.specs.Kinds.{Kind, SumLaws, JoinLaws, Lawful, pinLimit, sumLimit}
-use Rattle.plans.specs.LaterOfTwo.{LaterLaws}
-use Rattle.plans.specs.Packing.{Task, Pins, noPins, onePin, rotatedOnce, sideOf, packedEdge}
+use Rattle.plans.specs.Kinds.{Kind, SumLaws, JoinLaws, Lawful, sideLimit, pinLimit, sumLimit}
+use Rattle.plans.specs.Packing.{Task, Pins, noPins, onePin, rotatedOnce, sideOf, axisOf, spanOf, packedEdge}
 use Rattle.plans.specs.PackingCalls.{wrongSide, packRefusal, pinRefusal, rotationRefusal, noPlace}
 use Rattle.plans.specs.Placements.{Placement, LeastPlacement, NoPlacement, ByLongestPaths}
+use Rattle.plans.specs.Sequences.{countBefore}
 use Rattle.plans.specs.Tables.{Feasible}
 use Rattle.plans.specs.declared.measures.Placed.{Placed}
 
@@ -34,22 +33,27 @@ module _ {L : Type 0} (K : Kind L) where
     abbrev pub packedPlacement : Pins L → Placement L
     packedPlacement pins = record { across = packedEdge K t pins 1; up = packedEdge K t pins 2 }
 
-    -- every sum that a packing forms, of a near edge and its side, stays within the limit
-    abbrev pub SumsWithin : Pins L → Type 0
-    SumsWithin pins =
-        (g i : ℕ) → 0 < g → i < t .plan .size
-        → K .reach (packedEdge K t pins g i) + K .reach (sideOf K t g i) ≤ sumLimit
+    -- along the axis of a graph, every sum that a packing forms stays within the limit
+    pub record SumsWithin (pins : Pins L) (g : ℕ) : Type 0 where
+      -- a near edge lies no further out than a pin and the greatest side of each module before it
+      pub near :
+          (i : ℕ) → i < t .plan .size
+          → K .reach (packedEdge K t pins g i)
+          ≤ pinLimit + countBefore (t .plan .size) (axisOf K t pins g .before) i * sideLimit
+      -- so a near edge and its side together, and the chip, extend no further than a pin and 64 sides
+      pub sums : (i : ℕ) → i < t .plan .size → K .reach (packedEdge K t pins g i) + K .reach (sideOf K t g i) ≤ sumLimit
+      pub span : K .reach (spanOf K t g (packedEdge K t pins g)) ≤ sumLimit
 
     -- a packing with pins is the least placement, and there is "no place" exactly where there is no placement
     pub record PackedPlan (pins : Pins L) : Type 0 where
-      pub within : SumsWithin pins
+      pub within : (g : ℕ) → 0 < g → SumsWithin pins g
       pub least : noPlace K t pins ≡ false → LeastPlacement K t pins (packedPlacement pins)
       pub none : noPlace K t pins ≡ true → NoPlacement K t pins
       pub only : NoPlacement K t pins → noPlace K t pins ≡ true
 
     -- a packing without pins is the least placement, by longest paths
     pub record PackedFreely : Type 0 where
-      pub within : SumsWithin noPins
+      pub within : (g : ℕ) → 0 < g → SumsWithin noPins g
       pub least : LeastPlacement K t noPins (packedPlacement noPins)
       pub longest : ByLongestPaths K t noPins (packedPlacement noPins)
 

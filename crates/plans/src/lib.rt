@@ -21,6 +21,7 @@ pub use packings::later_of_two;
 pub use packings::lawful_kinds;
 pub use packings::packing_a_floorplan;
 pub use packings::packing_along_an_axis;
+pub use packings::packing_answers;
 pub use refusals::ChangeRefusal;
 pub use refusals::LoadRefusal;
 pub use refusals::PlanChangeRefusal;

@@ -3,6 +3,7 @@ ghost use Rattle.plans.specs.AxisTheorems.{PacksLeast, PathsCovered, PacksLong
 ghost use Rattle.plans.specs.CarriedPackings.{CarriedPackings, CountedIsPlain};
 ghost use Rattle.plans.specs.Kinds.{Lawful, plainKind, countedKind};
 ghost use Rattle.plans.specs.LaterOfTwo.{LaterIsJoin};
+ghost use Rattle.plans.specs.PackingAnswers.{PackAnswers, PinnedAnswers, RotatedAnswers};
 ghost use Rattle.plans.specs.PackingTheorems.{PacksPlans, PackIsLeast, PinnedIsLeast, RotatedIsLeast};
 
 // Plain and counted lengths have the laws of a kind of length.
@@ -44,4 +45,12 @@ pub fn carried_packings<L, M>()
 // The lengths of a counted packing are those of the plain packing.
 pub fn counted_is_plain()
     ensures { λ _. ⌜ CountedIsPlain ⌝ }
+{}
+
+// A packing call that answers a chip shows, with its list, the least placement; with a module pinned, "no place"
+// is answered exactly where no other refusal applies and there is no placement.
+pub fn packing_answers<L>()
+    ensures pack { λ _. ⌜ PackAnswers L ⌝ }
+    ensures pinned { λ _. ⌜ PinnedAnswers L ⌝ }
+    ensures rotated { λ _. ⌜ RotatedAnswers L ⌝ }
 {}
