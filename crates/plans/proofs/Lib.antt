@@ -12,3 +12,6 @@ pub mod SwapFeasible
 pub mod ChangesFeasible
 pub mod ChangesInWords
 pub mod ReductionEdges
+pub mod Pairwise
+pub mod RepairOrder
+pub mod Repair

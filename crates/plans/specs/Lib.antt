@@ -12,6 +12,7 @@ pub mod Changes
 pub mod ChangesFeasible
 pub mod ChangesInWords
 pub mod ReductionEdges
+pub mod Repair
 pub mod Transposed
 pub mod SequencePairs
 pub mod Kinds
