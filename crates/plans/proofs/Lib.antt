@@ -1,14 +1,16 @@
 -- The mathematics, a file for each subject.
 pub mod Searches
 pub mod TableLists
+pub mod Tellings
 pub mod Pigeonhole
 pub mod Orders
 pub mod Sequences
+pub mod Accepted
 pub mod Beside
+pub mod SwapFeasible
 pub mod ReverseTables
 pub mod ReverseFeasible
 pub mod MoveFeasible
-pub mod SwapFeasible
 pub mod ChangesFeasible
 pub mod ChangesInWords
 pub mod ReductionEdges

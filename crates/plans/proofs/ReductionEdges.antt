@@ -5,7 +5,7 @@ use mathlib.Core.Bool.{Bool, true, false, _&&_}
 use mathlib.Core.Logic.{_⊎_, inl, inr, _↔_}
 use lib.Dec.{eqb}
 use Rattle.std.proofs.shelf.Tests.{true≢false, and-parts, eqb-true, cases-bool}
-use Rattle.plans.proofs.ChangesFeasible.{Reduction, free-single}
+use Rattle.plans.proofs.Accepted.{free-single}
 use Rattle.plans.proofs.Searches.{none-from}
 use Rattle.plans.specs.Changes.{bypassed}
 use Rattle.plans.specs.Published.{Edge, Path, PublishedReduction}

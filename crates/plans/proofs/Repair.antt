@@ -12,11 +12,10 @@ use Rattle.std.specs.shelf.Lists.{All}
 use Rattle.std.proofs.shelf.Elements.{all-weaker}
 use Rattle.std.proofs.shelf.Lists.{length-append, take-append-drop, take-take, drop-more, getD-take, length-take-le}
 use Rattle.std.proofs.shelf.Tests.{eqb-true, eqb-false, not-true}
-use Rattle.plans.proofs.ChangesFeasible.{edge-accepted, free-single}
+use Rattle.plans.proofs.Accepted.{Single, edge-accepted, free-single}
 use Rattle.plans.proofs.Pairwise.{Pairs, Across, all-parts, all-both, pairs-from, pairs-parts, kept-all, kept-pairs, kept-length, place-found}
 use Rattle.plans.proofs.RepairOrder.{Joins, fits-from-pairs, repaired-pairs}
 use Rattle.plans.proofs.ReverseFeasible.{reverse-feasible}
-use Rattle.plans.proofs.ReverseTables.{Single}
 use Rattle.plans.proofs.Sequences.{fits-all, fits-earlier, sequence-determined}
 use Rattle.plans.specs.Changes.{reverseTable}
 use Rattle.plans.specs.Repair.{RepairFits}

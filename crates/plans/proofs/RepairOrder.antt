@@ -10,9 +10,10 @@ use lib.ListN.{length, getD}
 use Rattle.std.specs.shelf.Lists.{All}
 use Rattle.std.proofs.shelf.Elements.{all-append, all-weaker}
 use Rattle.std.proofs.shelf.Tests.{cases-eq, cases-order, eqb-true, eqb-false, not-true}
+use Rattle.plans.proofs.Accepted.{Single}
 use Rattle.plans.proofs.Pairwise.{Pairs, Across, pairs-at, pairs-append, across-from, pairs-weaker, kept-all, kept-pairs}
 use Rattle.plans.proofs.ReverseFeasible.{gained-edge, reverse-feasible}
-use Rattle.plans.proofs.ReverseTables.{Single, ReversedTells, reversed}
+use Rattle.plans.proofs.ReverseTables.{ReversedTells, reversed}
 use Rattle.plans.proofs.Sequences.{edge-onwards}
 use Rattle.plans.specs.Changes.{reverseTable}
 use Rattle.plans.specs.ChangesInWords.{ReverseFrom, ReverseTo, ReverseGains}
