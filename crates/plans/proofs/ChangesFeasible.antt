@@ -1,29 +1,21 @@
 -- The accepted changes of a feasible floorplan are feasible.
-use Prim.Native.Nat.{ℕ, zero, suc, _+_, _≤_, _<_}
+use Prim.Native.Nat.{ℕ, _<_}
 use native.Mathlib.Omega.{arith}
-use mathlib.Core.Path.{_≡_, refl, sym, _∙_, ap, subst, fun-ext}
-use mathlib.Core.Bool.{Bool, true, false, cond, _&&_, _||_}
+use mathlib.Core.Path.{_≡_, sym, subst, fun-ext}
 use mathlib.Core.List.{List, map}
-use mathlib.Core.Logic.{_⊎_, inl, inr, _≢_}
-use lib.Dec.{eqb, leb}
-use lib.ListN.{getD}
-use Rattle.std.specs.declared.option.Option.{Option}
-use Rattle.std.specs.declared.option.Option.the-variants.{Some, None}
-use Rattle.std.proofs.shelf.Tests.{true≢false, cases-lt, cases-eq, leb-false, eqb-false, eq-eqb, or-parts}
+use mathlib.Core.Logic.{inl, inr}
+use Rattle.std.proofs.shelf.Tests.{cases-lt}
 use Rattle.plans.proofs.Accepted.{two-accepted, edge-accepted, free-single}
 use Rattle.plans.proofs.MoveFeasible.{move-feasible, move-fits}
 use Rattle.plans.proofs.ReverseFeasible.{reverse-feasible}
 use Rattle.plans.proofs.Sequences.{sequence-determined}
 use Rattle.plans.proofs.SwapFeasible.{swap-feasible, swap-fits}
 use Rattle.plans.proofs.TableLists.{codes-length, read-back, table-within}
-use Rattle.plans.specs.Changes.{withTable, exchange, bypassed, twoRefusal, edgeRefusal, changeRefusal, changed, swapTable, reverseTable, moveTable}
+use Rattle.plans.specs.Changes.{withTable, exchange, swapTable, reverseTable, moveTable}
 use Rattle.plans.specs.ChangesFeasible.{ChangesFeasible}
-use Rattle.plans.specs.Search.{orElse, refusing}
 use Rattle.plans.specs.Sequences.{fitting}
 use Rattle.plans.specs.Tables.{Table, Floorplan, FeasibleTable, Fits, Feasible, tableOf, codesOf, tableIn}
-use Rattle.plans.specs.declared.change.Change.{Change}
 use Rattle.plans.specs.declared.change.Change.the-variants.{Rotate, Swap, Reverse, MoveEdge}
-use Rattle.plans.specs.declared.refusals.ChangeRefusal.the-variants.{NoModule, SameModule, NoEdge, NoReductionEdge}
 
 -- a table that is 0 outside m modules is the table of its codes
 pub whole-table :

@@ -1,8 +1,7 @@
 -- A move of a reduction edge leaves a feasible table feasible, and every edge in its direction.
-use Prim.Native.Nat.{ℕ, zero, suc, _+_, _-_, _≤_, _<_}
+use Prim.Native.Nat.{ℕ, _<_}
 use native.Mathlib.Omega.{arith}
-use mathlib.Core.Path.{_≡_, refl, sym, _∙_, ap}
-use mathlib.Core.Bool.{Bool, true, false, cond, _&&_, _||_}
+use mathlib.Core.Path.{_≡_, refl, sym, _∙_}
 use mathlib.Core.List.{List}
 use mathlib.Core.Logic.{_⊎_, inl, inr, _≢_}
 use lib.ListN.{getD}
@@ -12,7 +11,7 @@ use Rattle.plans.proofs.Accepted.{Single}
 use Rattle.plans.proofs.Beside.{converse, converse-feasible, TwoGraphs, beside-into}
 use Rattle.plans.proofs.Sequences.{edge-onwards}
 use Rattle.plans.proofs.Tellings.{both-tell, either-tell}
-use Rattle.plans.specs.Changes.{otherGraph, moveTable, upTo, onFrom}
+use Rattle.plans.specs.Changes.{otherGraph, moveTable}
 use Rattle.plans.specs.ChangesInWords.{MoveFrom, MoveTo, MoveGains}
 use Rattle.plans.specs.Tables.{Table, FeasibleTable, Fits}
 

@@ -1,11 +1,11 @@
 -- The published repair of the sequence after a reverse gives the one that fits.
-use Prim.Native.Nat.{ℕ, zero, suc, _+_, _-_, _≤_, _<_}
+use Prim.Native.Nat.{ℕ, suc, _<_}
 use native.Mathlib.Omega.{arith}
 use native.Mathlib.Numerals.{add-one}
-use mathlib.Core.Path.{_≡_, refl, sym, _∙_, ap, ap₂, subst}
-use mathlib.Core.Bool.{Bool, true, false, not}
-use mathlib.Core.List.{List, [], _∷_, _++_, append-assoc}
-use mathlib.Core.Logic.{_⊎_, inl, inr, _≢_}
+use mathlib.Core.Path.{_≡_, sym, _∙_, ap, ap₂, subst}
+use mathlib.Core.Bool.{true, not}
+use mathlib.Core.List.{List, _∷_, _++_, append-assoc}
+use mathlib.Core.Logic.{_≢_}
 use lib.Dec.{eqb}
 use lib.ListN.{length, getD, take, drop}
 use Rattle.std.specs.shelf.Lists.{All}
@@ -13,7 +13,7 @@ use Rattle.std.proofs.shelf.Elements.{all-weaker}
 use Rattle.std.proofs.shelf.Lists.{length-append, take-append-drop, take-take, drop-more, getD-take, length-take-le}
 use Rattle.std.proofs.shelf.Tests.{eqb-true, eqb-false, not-true}
 use Rattle.plans.proofs.Accepted.{Single, edge-accepted, free-single}
-use Rattle.plans.proofs.Pairwise.{Pairs, Across, all-parts, all-both, pairs-from, pairs-parts, kept-all, kept-pairs, kept-length, place-found}
+use Rattle.plans.proofs.Pairwise.{Pairs, all-parts, all-both, pairs-from, pairs-parts, kept-all, kept-pairs, kept-length, place-found}
 use Rattle.plans.proofs.RepairOrder.{Joins, fits-from-pairs, repaired-pairs}
 use Rattle.plans.proofs.ReverseFeasible.{reverse-feasible}
 use Rattle.plans.proofs.Sequences.{fits-all, fits-earlier, sequence-determined}

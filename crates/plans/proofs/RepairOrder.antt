@@ -1,23 +1,20 @@
 -- The parts of a repaired sequence run along the edges of the reversed table.
-use Prim.Native.Nat.{ℕ, zero, suc, _+_, _≤_, _<_}
+use Prim.Native.Nat.{ℕ, zero, suc, _≤_, _<_}
 use native.Mathlib.Omega.{arith}
-use mathlib.Core.Path.{_≡_, refl, sym, _∙_, ap}
-use mathlib.Core.Bool.{Bool, true, false, not}
-use mathlib.Core.List.{List, [], _∷_, _++_}
+use mathlib.Core.Path.{_≡_, refl, sym}
+use mathlib.Core.List.{List, _∷_, _++_}
 use mathlib.Core.Logic.{_⊎_, inl, inr, _≢_}
-use lib.Dec.{eqb}
 use lib.ListN.{length, getD}
 use Rattle.std.specs.shelf.Lists.{All}
 use Rattle.std.proofs.shelf.Elements.{all-append, all-weaker}
-use Rattle.std.proofs.shelf.Tests.{cases-eq, cases-order, eqb-true, eqb-false, not-true}
+use Rattle.std.proofs.shelf.Tests.{cases-eq, cases-order}
 use Rattle.plans.proofs.Accepted.{Single}
-use Rattle.plans.proofs.Pairwise.{Pairs, Across, pairs-at, pairs-append, across-from, pairs-weaker, kept-all, kept-pairs}
-use Rattle.plans.proofs.ReverseFeasible.{gained-edge, reverse-feasible}
+use Rattle.plans.proofs.Pairwise.{Pairs, pairs-at, pairs-append, across-from, pairs-weaker}
+use Rattle.plans.proofs.ReverseFeasible.{gained-edge}
 use Rattle.plans.proofs.ReverseTables.{ReversedTells, reversed}
 use Rattle.plans.proofs.Sequences.{edge-onwards}
 use Rattle.plans.specs.Changes.{reverseTable}
 use Rattle.plans.specs.ChangesInWords.{ReverseFrom, ReverseTo, ReverseGains}
-use Rattle.plans.specs.Sequences.{keptBy}
 use Rattle.plans.specs.Tables.{Table, FeasibleTable, Fits}
 
 -- an edge, of either graph

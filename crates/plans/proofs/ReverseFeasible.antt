@@ -1,7 +1,7 @@
 -- A reverse of a reduction edge leaves a feasible table feasible.
-use Prim.Native.Nat.{ℕ, zero, suc, _+_, _≤_, _<_}
+use Prim.Native.Nat.{ℕ, _≤_, _<_}
 use native.Mathlib.Omega.{arith}
-use mathlib.Core.Path.{_≡_, refl, sym, _∙_, ap}
+use mathlib.Core.Path.{_≡_, sym, _∙_}
 use mathlib.Core.Logic.{_⊎_, inl, inr, _≢_}
 use Rattle.std.proofs.shelf.Tests.{cases-eq}
 use Rattle.plans.proofs.Accepted.{Single}

@@ -1,11 +1,11 @@
 -- A reverse of a reduction edge in a feasible table, and what the reversed table has.
-use Prim.Native.Nat.{ℕ, zero, suc, _+_, _≤_, _<_}
+use Prim.Native.Nat.{ℕ, _<_}
 use native.Mathlib.Omega.{arith}
-use mathlib.Core.Path.{_≡_, refl, sym, _∙_, ap}
-use mathlib.Core.Bool.{Bool, true, false, cond, not, _&&_, _||_}
+use mathlib.Core.Path.{_≡_, refl, _∙_}
+use mathlib.Core.Bool.{Bool, cond, not, _&&_, _||_}
 use mathlib.Core.Logic.{_⊎_, inl, inr, _≢_}
 use lib.Dec.{eqb}
-use Rattle.std.proofs.shelf.Tests.{cases-eq, cases-bool, ne-eqb}
+use Rattle.std.proofs.shelf.Tests.{cases-eq, ne-eqb}
 use Rattle.std.proofs.shelf.Ways.{tells}
 use Rattle.plans.proofs.Accepted.{Single}
 use Rattle.plans.proofs.Tellings.{Tells, both-tell}
