@@ -1,17 +1,18 @@
 -- The changes are what the words say: the edges that each graph gains and loses.
-use Prim.Native.Nat.{ℕ, _≤_, _<_}
+use Prim.Native.Nat.{ℕ, _<_}
 use native.Mathlib.Omega.{arith}
 use mathlib.Core.Path.{_≡_, refl, sym, _∙_, ap, subst}
 use mathlib.Core.List.{map}
-use mathlib.Core.Logic.{_⊎_, inl, inr, _≢_, _↔_}
+use mathlib.Core.Logic.{_⊎_, inl, inr, _↔_}
 use Rattle.std.specs.declared.option.Option.the-variants.{None}
+use Rattle.plans.proofs.Accepted.{Single, two-accepted, edge-accepted, free-single}
 use Rattle.plans.proofs.Beside.{TwoGraphs}
-use Rattle.plans.proofs.ChangesFeasible.{table-of-changed, two-accepted, edge-accepted, free-single}
+use Rattle.plans.proofs.ChangesFeasible.{table-of-changed}
 use Rattle.plans.proofs.MoveFeasible.{MovedTells, moved, move-feasible, other-own}
 use Rattle.plans.proofs.ReverseFeasible.{gained-edge, kept-code, reverse-feasible}
-use Rattle.plans.proofs.ReverseTables.{Single, ReversedTells, reversed, never}
+use Rattle.plans.proofs.ReverseTables.{ReversedTells, reversed, never}
 use Rattle.plans.proofs.SwapFeasible.{swap-feasible}
-use Rattle.plans.specs.Changes.{otherGraph, exchange, changeRefusal, changed, swapTable, reverseTable, moveTable}
+use Rattle.plans.specs.Changes.{otherGraph, exchange, changeRefusal, swapTable, reverseTable, moveTable}
 use Rattle.plans.specs.ChangesInWords.{Becomes, ReverseGains, MoveGains, SwapWords, ReverseWords, MoveWords, ChangesAsTold}
 use Rattle.plans.specs.Published.{Edge}
 use Rattle.plans.specs.Sequences.{fitting}

@@ -1,6 +1,7 @@
 -- The mathematics, a file for each subject.
 pub mod Searches
 pub mod TableLists
+pub mod Tellings
 pub mod Pigeonhole
 pub mod Orders
 pub mod Places
@@ -13,11 +14,12 @@ pub mod Transposing
 pub mod TransposeLaw
 pub mod Accounts
 pub mod Sequences
+pub mod Accepted
 pub mod Beside
+pub mod SwapFeasible
 pub mod ReverseTables
 pub mod ReverseFeasible
 pub mod MoveFeasible
-pub mod SwapFeasible
 pub mod ChangesFeasible
 pub mod ChangesInWords
 pub mod ReductionEdges
@@ -35,3 +37,6 @@ pub mod ChangeFirst
 pub mod PackFirst
 pub mod PackingAnswers
 pub mod SequenceWalk
+pub mod Pairwise
+pub mod RepairOrder
+pub mod Repair

@@ -1,11 +1,11 @@
 -- Paths in a feasible table are edges, and so a reduction edge is one that no module bypasses.
-use Prim.Native.Nat.{ℕ, _≤_, _<_}
-use mathlib.Core.Path.{_≡_, refl, sym, _∙_}
-use mathlib.Core.Bool.{Bool, true, false, _&&_}
-use mathlib.Core.Logic.{_⊎_, inl, inr, _↔_}
+use Prim.Native.Nat.{ℕ, _<_}
+use mathlib.Core.Path.{_≡_}
+use mathlib.Core.Bool.{Bool, false, _&&_}
+use mathlib.Core.Logic.{inl, inr}
 use lib.Dec.{eqb}
-use Rattle.std.proofs.shelf.Tests.{true≢false, and-parts, eqb-true, cases-bool}
-use Rattle.plans.proofs.ChangesFeasible.{Reduction, free-single}
+use Rattle.std.proofs.shelf.Tests.{and-parts, eqb-true, cases-bool}
+use Rattle.plans.proofs.Accepted.{free-single}
 use Rattle.plans.proofs.Searches.{none-from}
 use Rattle.plans.specs.Changes.{bypassed}
 use Rattle.plans.specs.Published.{Edge, Path, PublishedReduction}

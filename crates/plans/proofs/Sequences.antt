@@ -1,15 +1,13 @@
 -- The edges of a feasible table order its modules, so one sequence fits.
-use Prim.Native.Nat.{ℕ, zero, suc, _+_, _≤_, _<_}
+use Prim.Native.Nat.{ℕ, _<_}
 use native.Mathlib.Omega.{arith}
-use mathlib.Core.Path.{_≡_, refl, sym, _∙_, ap}
-use mathlib.Core.Bool.{Bool, true, false, cond}
+use mathlib.Core.Path.{_≡_, refl, ap}
 use mathlib.Core.List.{List}
-use mathlib.Core.Logic.{_⊎_, inl, inr, _≢_}
-use lib.Dec.{ltb}
-use lib.ListN.{length, getD}
-use Rattle.std.proofs.shelf.Tests.{lt-ltb, le-ltb, ltb-true, cases-eq}
+use mathlib.Core.Logic.{inl, inr, _≢_}
+use lib.ListN.{getD}
+use Rattle.std.proofs.shelf.Tests.{lt-ltb, le-ltb, ltb-true}
 use Rattle.plans.proofs.Orders.{ordered-by-count, names-all}
-use Rattle.plans.specs.OneSequence.{OneSequence, SequenceDetermined}
+use Rattle.plans.specs.OneSequence.{SequenceDetermined}
 use Rattle.plans.specs.Orders.{TotalOrder, RunsAlong}
 use Rattle.plans.specs.Sequences.{edgeTo, fitting}
 use Rattle.plans.specs.Tables.{Table, FeasibleTable, Fits}

@@ -14,6 +14,7 @@ pub mod Changes
 pub mod ChangesFeasible
 pub mod ChangesInWords
 pub mod ReductionEdges
+pub mod Repair
 pub mod Transposed
 pub mod TransposeLaw
 pub mod SequencePairs

@@ -1,5 +1,6 @@
 // The theory of floorplans: what every crate above shares and is proved against.
 mod change;
+mod graphs;
 mod measures;
 mod pack_refusals;
 mod packings;
@@ -8,6 +9,8 @@ mod theorems;
 mod worked;
 
 pub use change::Change;
+pub use graphs::changes_of_graphs;
+pub use graphs::one_sequence;
 pub use measures::Chip;
 pub use measures::Placed;
 pub use measures::Sides;
