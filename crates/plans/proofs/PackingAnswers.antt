@@ -101,7 +101,7 @@ module _ {L : Type 0} (K : Kind L) (law : Lawful K) (t : Task L) (feasible : Fea
   pub pack-answers :
       (chip : Chip L) → after-pack K t results .answer ≡ Ok chip
       → ShowsLeast K t noPins results (after-pack K t results .results) chip
-      × ByLongestPaths K t noPins (packedPlacement K t noPins)
+      × ByLongestPaths K t (packedPlacement K t noPins)
   pack-answers chip answer =
       let q = answered-not-refused K (packRefusal K t results) results (packedOutcome K t noPins results) chip answer in
       let packed = pack-law K law t feasible results (q .0) in

@@ -42,7 +42,7 @@ PackAnswers L =
     (K : Kind L) → Lawful K → (t : Task L) → Feasible (t .plan) → (results : List (Placed L)) (chip : Chip L)
     → after-pack K t results .answer ≡ Ok chip
     → ShowsLeast K t noPins results (after-pack K t results .results) chip
-    × ByLongestPaths K t noPins (packedPlacement K t noPins)
+    × ByLongestPaths K t (packedPlacement K t noPins)
 
 -- pack with a module pinned
 pub record PinnedAnswered {L : Type 0} (K : Kind L) (t : Task L) (results : List (Placed L)) (a : ℕ) (across up : L) : Type 0 where

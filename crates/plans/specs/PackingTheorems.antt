@@ -55,7 +55,7 @@ module _ {L : Type 0} (K : Kind L) where
     pub record PackedFreely : Type 0 where
       pub within : (g : ℕ) → 0 < g → SumsWithin noPins g
       pub least : LeastPlacement K t noPins (packedPlacement noPins)
-      pub longest : ByLongestPaths K t noPins (packedPlacement noPins)
+      pub longest : ByLongestPaths K t (packedPlacement noPins)
 
 -- with any pins that are not too far out, by the laws of sums and of the later of two
 abbrev pub PacksPlans : Type 0 → Type 0
