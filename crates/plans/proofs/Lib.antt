@@ -3,6 +3,7 @@ pub mod Searches
 pub mod TableLists
 pub mod Tellings
 pub mod Pigeonhole
+pub mod Places
 pub mod Orders
 pub mod Sequences
 pub mod Accepted
