@@ -3,8 +3,8 @@ pub mod Searches
 pub mod TableLists
 pub mod Tellings
 pub mod Pigeonhole
-pub mod Orders
 pub mod Places
+pub mod Orders
 pub mod FirstRefusals
 pub mod LoadFirst
 pub mod PublishedLoad

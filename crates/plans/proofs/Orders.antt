@@ -20,12 +20,6 @@ use Rattle.plans.specs.Orders.{TotalOrder, RunsAlong, CountingOrders}
 use Rattle.plans.specs.Search.{firstBelow}
 use Rattle.plans.specs.Sequences.{countBefore, orderedBy}
 
--- a list names every number below m
-pub names-all :
-    (m : ℕ) (before : ℕ → ℕ → Bool) (s : List ℕ) → RunsAlong m before s → (x : ℕ) → x < m
-    → (k : ℕ) × (k < m) × (getD s k 0 ≡ x)
-names-all m before s r = all-found m (λ k. getD s k 0) (record { below = r .modules; once = r .once })
-
 module _ (m : ℕ) (before : ℕ → ℕ → Bool) (o : TotalOrder m before) where
   -- what is before counts fewer
   count-rises : (i j : ℕ) → i < m → j < m → before i j ≡ true → countBefore m before i < countBefore m before j

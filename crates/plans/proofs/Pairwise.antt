@@ -4,12 +4,9 @@ use native.Mathlib.Omega.{arith}
 use mathlib.Core.Path.{_≡_, refl}
 use mathlib.Core.Bool.{Bool, true, false, cond, not}
 use mathlib.Core.List.{List, [], _∷_, _++_}
-use mathlib.Core.Logic.{_⊎_, inl, inr}
 use lib.ListN.{length, getD}
 use Rattle.std.specs.shelf.Lists.{All}
 use Rattle.std.proofs.shelf.Elements.{all-append, all-getD, all-from-getD, all-weaker}
-use Rattle.std.proofs.shelf.Tests.{cases-eq, eq-eqb, ne-eqb}
-use Rattle.plans.specs.Search.{placeOf}
 use Rattle.plans.specs.Sequences.{keptBy}
 
 -- each entry stands in the relation to all after it
@@ -112,19 +109,3 @@ kept-length passes (x ∷ xs) = go (kept-length passes xs) (passes x)
         ≡ suc (length xs)
     go rest true = omega arith
     go rest false = omega arith
-
--- a number that stands in a list stands at its first place
-pub place-found :
-    (xs : List ℕ) (k : ℕ) → k < length xs → (placeOf xs (getD xs k 0) < length xs) × (getD xs (placeOf xs (getD xs k 0)) 0 ≡ getD xs k 0)
-place-found [] k h = absurd (omega arith)
-place-found (x ∷ xs) zero h = rw (eq-eqb x x refl) (omega arith, refl)
-place-found (x ∷ xs) (suc k) h = go (place-found xs k (omega arith)) (cases-eq x (getD xs k 0))
-  where
-    y : ℕ
-    y = getD xs k 0
-
-    go :
-        (placeOf xs y < length xs) × (getD xs (placeOf xs y) 0 ≡ y) → (x ≡ y) ⊎ (x ≡ y → ⊥)
-        → (placeOf (x ∷ xs) y < suc (length xs)) × (getD (x ∷ xs) (placeOf (x ∷ xs) y) 0 ≡ y)
-    go ih (inl e) = rw (eq-eqb x y e) (omega arith, e)
-    go ih (inr e) = rw (ne-eqb x y e) (omega (arith, ih .0), ih .1)

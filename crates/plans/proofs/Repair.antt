@@ -13,10 +13,11 @@ use Rattle.std.proofs.shelf.Elements.{all-weaker}
 use Rattle.std.proofs.shelf.Lists.{length-append, take-append-drop, take-take, drop-more, getD-take, length-take-le}
 use Rattle.std.proofs.shelf.Tests.{eqb-true, eqb-false, not-true}
 use Rattle.plans.proofs.Accepted.{Single, edge-accepted, free-single}
-use Rattle.plans.proofs.Pairwise.{Pairs, all-parts, all-both, pairs-from, pairs-parts, kept-all, kept-pairs, kept-length, place-found}
+use Rattle.plans.proofs.Pairwise.{Pairs, all-parts, all-both, pairs-from, pairs-parts, kept-all, kept-pairs, kept-length}
+use Rattle.plans.proofs.Places.{place-of-module}
 use Rattle.plans.proofs.RepairOrder.{Joins, fits-from-pairs, repaired-pairs}
 use Rattle.plans.proofs.ReverseFeasible.{reverse-feasible}
-use Rattle.plans.proofs.Sequences.{fits-all, fits-earlier, sequence-determined}
+use Rattle.plans.proofs.Sequences.{fits-different, fits-earlier, sequence-determined}
 use Rattle.plans.specs.Changes.{reverseTable}
 use Rattle.plans.specs.Repair.{RepairFits}
 use Rattle.plans.specs.Search.{placeOf}
@@ -41,14 +42,6 @@ split-two xs i j h l =
     sym (append-assoc (take i xs) (getD xs i 0 ∷ drop (suc i) (take j xs)) (getD xs j 0 ∷ drop (suc j) xs))
     ∙ ap (λ ys. ys ++ (getD xs j 0 ∷ drop (suc j) xs)) front ∙ split-at xs j l
 
--- a module of a sequence that fits stands at its place
-place-of-module :
-    (m : ℕ) (c : Table) (s : List ℕ) → Fits m c s → (x : ℕ) → x < m → (placeOf s x < m) × (getD s (placeOf s x) 0 ≡ x)
-place-of-module m c s f x h =
-    let (k, i, e) = fits-all m c s f x h in
-    let found = place-found s k (omega (arith, f .long)) in
-    rw (f .long) at (subst (λ y. (placeOf s y < length s) × (getD s (placeOf s y) 0 ≡ y)) e found)
-
 module _ (m : ℕ) (c : Table) (law : FeasibleTable m c) (s : List ℕ) (f : Fits m c s) (a b : ℕ) (some : 0 < c a b)
     (single : Single c a b) where
   front : List ℕ
@@ -68,8 +61,9 @@ module _ (m : ℕ) (c : Table) (law : FeasibleTable m c) (s : List ℕ) (f : Fit
   unfolding front rest
   around =
       let inside = law .within a b some in
-      let at-a = place-of-module m c s f a (inside .0) in
-      let at-b = place-of-module m c s f b (inside .1) in
+      let different = fits-different m c s f in
+      let at-a = place-of-module m s (f .long) different a (inside .0) in
+      let at-b = place-of-module m s (f .long) different b (inside .1) in
       let e : 0 < c (getD s (placeOf s a) 0) (getD s (placeOf s b) 0) = rw (at-a .1, at-b .1) some in
       let less = f .forward (placeOf s a) (placeOf s b) (at-a .0) (at-b .0) e in
       let two = split-two s (placeOf s a) (placeOf s b) less (omega (arith, at-b .0, f .long)) in
