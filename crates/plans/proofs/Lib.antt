@@ -18,3 +18,6 @@ pub mod ReverseFeasible
 pub mod MoveFeasible
 pub mod SwapFeasible
 pub mod ChangesFeasible
+pub mod NamedOnce
+pub mod PairFeasible
+pub mod PairLaw

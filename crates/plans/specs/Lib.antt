@@ -16,6 +16,7 @@ pub mod ChangesInWords
 pub mod Transposed
 pub mod TransposeLaw
 pub mod SequencePairs
+pub mod PairLaw
 pub mod Kinds
 pub mod Axes
 pub mod Packing

@@ -20,5 +20,6 @@ pub use refusals::PlanChangeRefusal;
 pub use refusals::PlanLoadRefusal;
 pub use refusals::TrialRefusal;
 pub use theorems::load_law;
+pub use theorems::pair_law;
 pub use theorems::transpose_law;
 pub use worked::worked_plans;

@@ -1,5 +1,6 @@
 // Theorems about the definitions, each on a function that only carries it.
 ghost use Rattle.plans.specs.LoadLaw.{LoadLaw};
+ghost use Rattle.plans.specs.PairLaw.{PairLaw};
 ghost use Rattle.plans.specs.TransposeLaw.{TransposeLaw};
 
 // A load is refused by the first refusal that applies, and accepted exactly where the published
@@ -12,4 +13,10 @@ pub fn load_law()
 // change and refusal.
 pub fn transpose_law()
     ensures { λ _. ⌜ TransposeLaw ⌝ }
+{}
+
+// Two sequences of the same modules determine a feasible floorplan, every feasible floorplan is
+// determined by such a pair, and each is got from the other.
+pub fn pair_law()
+    ensures { λ _. ⌜ PairLaw ⌝ }
 {}
