@@ -3,8 +3,8 @@ pub mod Searches
 pub mod TableLists
 pub mod Tellings
 pub mod Pigeonhole
-pub mod Places
 pub mod Orders
+pub mod Places
 pub mod FirstRefusals
 pub mod LoadFirst
 pub mod PublishedLoad
@@ -40,3 +40,6 @@ pub mod SequenceWalk
 pub mod Pairwise
 pub mod RepairOrder
 pub mod Repair
+pub mod NamedOnce
+pub mod PairFeasible
+pub mod PairLaw

@@ -18,6 +18,7 @@ pub mod Repair
 pub mod Transposed
 pub mod TransposeLaw
 pub mod SequencePairs
+pub mod PairLaw
 pub mod Kinds
 pub mod LaterOfTwo
 pub mod Axes

@@ -33,5 +33,6 @@ pub use refusals::TrialRefusal;
 pub use theorems::first_refusals;
 pub use theorems::load_law;
 pub use theorems::model_law;
+pub use theorems::pair_law;
 pub use theorems::transpose_law;
 pub use worked::worked_plans;

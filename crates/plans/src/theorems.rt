@@ -2,6 +2,7 @@
 ghost use Rattle.plans.specs.LoadLaw.{LoadLaw};
 ghost use Rattle.plans.specs.ModelLaw.{ModelLaw};
 ghost use Rattle.plans.specs.RefusalLaws.{ChangeLaw, PackLaw};
+ghost use Rattle.plans.specs.PairLaw.{PairLaw};
 ghost use Rattle.plans.specs.TransposeLaw.{TransposeLaw};
 
 // A load is refused by the first refusal that applies, and accepted exactly where the published
@@ -26,4 +27,10 @@ pub fn model_law()
 pub fn first_refusals<L>()
     ensures change { λ _. ⌜ ChangeLaw ⌝ }
     ensures packing { λ _. ⌜ PackLaw L ⌝ }
+{}
+
+// Two sequences of the same modules determine a feasible floorplan, every feasible floorplan is
+// determined by such a pair, and each is got from the other.
+pub fn pair_law()
+    ensures { λ _. ⌜ PairLaw ⌝ }
 {}
