@@ -11,3 +11,12 @@ pub mod PublishedFeasible
 pub mod LoadLaw
 pub mod Transposing
 pub mod TransposeLaw
+pub mod KindLaws
+pub mod Latest
+pub mod AxisPacking
+pub mod LongestPaths
+pub mod FlatAxes
+pub mod LeastPlacements
+pub mod PackRefusals
+pub mod PackingLaws
+pub mod CarriedPackings

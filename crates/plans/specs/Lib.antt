@@ -14,10 +14,14 @@ pub mod Transposed
 pub mod TransposeLaw
 pub mod SequencePairs
 pub mod Kinds
+pub mod LaterOfTwo
 pub mod Axes
+pub mod AxisTheorems
 pub mod Packing
 pub mod PackingCalls
 pub mod Placements
+pub mod PackingTheorems
+pub mod CarriedPackings
 pub mod Model
 pub mod Runs
 pub mod Shortcuts
