@@ -1,0 +1,37 @@
+// Counted lengths as a kind of length.
+ghost use Rattle.lengths.specs.CountedLengths.{countedLengths};
+use crate::counted::Counted;
+use crate::length::Length;
+
+pub impl Length for Counted as CountedLength {
+    ghost kind = { countedLengths };
+
+    const ZERO: Counted = Counted {
+        length: 0,
+        borders: 0,
+    };
+
+    fn origin() -> Counted {
+        Self::ZERO
+    }
+
+    // Beyond the limit both sums stop at the greatest number.
+    fn plus(self, other: Counted) -> Counted {
+        Counted {
+            length: self.length.saturating_add(other.length),
+            borders: self.borders.saturating_add(other.borders),
+        }
+    }
+
+    fn join(self, other: Counted) -> Counted {
+        if self.at_most(other) { other } else { self }
+    }
+
+    fn at_most(self, other: Counted) -> bool {
+        self.length < other.length || (self.length == other.length && self.borders <= other.borders)
+    }
+
+    fn extent(self) -> u32 {
+        self.length
+    }
+}
