@@ -1,5 +1,5 @@
 -- Counted lengths as a kind of length.
-use Prim.Native.Nat.{ℕ, _≤_, zero-le}
+use Prim.Native.Nat.{_+_, _≤_, min, zero-le}
 use native.Mathlib.Nat.{add-le-add}
 use mathlib.Core.Bool.{cond}
 use Rattle.std.specs.Results.{mapped}
@@ -7,6 +7,7 @@ use Rattle.std.specs.declared.result.Result.{Result}
 use Rattle.plans.specs.Kinds.{Kind, Count, countedKind}
 use Rattle.plans.specs.declared.pack_refusals.LengthRefusal.{LengthRefusal}
 use Rattle.lengths.specs.PlainLengths.{plainOf}
+use Rattle.lengths.specs.Sums.{greatest}
 use Rattle.lengths.specs.declared.counted.Counted.{Counted}
 use Rattle.lengths.specs.declared.plain.Plain.{Plain}
 
@@ -32,6 +33,11 @@ countedLengths =
       atMost = λ a b. countedKind .atMost (countOf a) (countOf b);
       reach = λ a. countedKind .reach (countOf a);
     }
+
+-- the numbers of a sum, each stopped at the greatest number
+abbrev pub countCapped : Count → Count → Count
+countCapped a b =
+    record { long = min (a .long + b .long) greatest; borders = min (a .borders + b .borders) greatest }
 
 -- a counted length without its borders
 abbrev pub withoutBorders : Counted → Plain

@@ -1,7 +1,8 @@
 -- Plain lengths as a kind of length.
-use Prim.Native.Nat.{ℕ}
+use Prim.Native.Nat.{ℕ, _+_, min}
 use mathlib.Core.Bool.{cond}
 use Rattle.plans.specs.Kinds.{Kind, plainKind}
+use Rattle.lengths.specs.Sums.{greatest}
 use Rattle.lengths.specs.declared.plain.Plain.{Plain}
 
 -- the plain length of a number
@@ -18,3 +19,7 @@ plainLengths =
       atMost = λ a b. plainKind .atMost (a .0) (b .0);
       reach = λ a. plainKind .reach (a .0);
     }
+
+-- the sum, stopped at the greatest number
+abbrev pub plainCapped : Plain → Plain → Plain
+plainCapped a b = plainOf (min (a .0 + b .0) greatest)

@@ -1,7 +1,7 @@
 // The trait of all kinds of length.
 ghost use mathlib.Core.Path.{_≡_};
-ghost use Prim.Native.Nat.{_+_, _≤_};
-ghost use Rattle.plans.specs.Kinds.{Kind, Lawful, sumLimit};
+ghost use Rattle.plans.specs.Kinds.{Kind, Lawful};
+ghost use Rattle.lengths.specs.Sums.{SumWithin};
 
 // What sides, edges and chips are measured in: a zero, sums, the later of two, an order and extents.
 // The laws are those of all kinds of length, for sums whose extent stays within the limit.
@@ -19,7 +19,7 @@ pub trait Length: Copy {
 
     // The sum, where the extents together stay within the limit; each kind says what is beyond.
     fn plus(self, other: Self) -> Self
-        ensures { λ r. ⌜ (kind .reach self + kind .reach other ≤ sumLimit → r ≡ kind .plus self other) ⌝ };
+        ensures { λ r. ⌜ SumWithin kind self other r ⌝ };
 
     // The later of two lengths.
     fn join(self, other: Self) -> Self

@@ -1,6 +1,7 @@
 // Plain lengths: whole numbers.
 ghost use mathlib.Core.Path.{_≡_};
-ghost use Rattle.lengths.specs.PlainLengths.{plainLengths};
+ghost use Rattle.lengths.specs.PlainLengths.{plainLengths, plainCapped};
+ghost use Rattle.lengths.specs.Sums.{SumWithin};
 use crate::length::Length;
 
 // A length that is a whole number.
@@ -17,7 +18,10 @@ pub impl Length for Plain as PlainLength {
     }
 
     // Beyond the limit the sum stops at the greatest number.
-    fn plus(self, other: Plain) -> Plain {
+    fn plus(self, other: Plain) -> Plain
+        ensures sum { λ r. ⌜ SumWithin plainLengths self other r ⌝ }
+        ensures capped { λ r. ⌜ r ≡ plainCapped self other ⌝ }
+    {
         Plain(self.0.saturating_add(other.0))
     }
 

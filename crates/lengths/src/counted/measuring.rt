@@ -1,5 +1,7 @@
 // Counted lengths as a kind of length.
-ghost use Rattle.lengths.specs.CountedLengths.{countedLengths};
+ghost use mathlib.Core.Path.{_≡_};
+ghost use Rattle.lengths.specs.CountedLengths.{countOf, countCapped, countedLengths};
+ghost use Rattle.lengths.specs.Sums.{SumWithin};
 use crate::counted::Counted;
 use crate::length::Length;
 
@@ -16,7 +18,10 @@ pub impl Length for Counted as CountedLength {
     }
 
     // Beyond the limit both sums stop at the greatest number.
-    fn plus(self, other: Counted) -> Counted {
+    fn plus(self, other: Counted) -> Counted
+        ensures sum { λ r. ⌜ SumWithin countedLengths self other r ⌝ }
+        ensures capped { λ r. ⌜ countOf r ≡ countCapped (countOf self) (countOf other) ⌝ }
+    {
         Counted {
             length: self.length.saturating_add(other.length),
             borders: self.borders.saturating_add(other.borders),
