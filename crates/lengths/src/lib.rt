@@ -3,6 +3,8 @@ mod counted;
 mod laws;
 mod length;
 mod plain;
+#[cfg(test)]
+mod tests;
 
 pub use counted::Counted;
 pub use counted::CountedLength;

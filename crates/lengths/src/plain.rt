@@ -26,7 +26,7 @@ pub impl Length for Plain as PlainLength {
     }
 
     fn join(self, other: Plain) -> Plain {
-        if self.0 <= other.0 { other } else { self }
+        if self.at_most(other) { other } else { self }
     }
 
     fn at_most(self, other: Plain) -> bool {

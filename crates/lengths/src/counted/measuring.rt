@@ -37,6 +37,6 @@ pub impl Length for Counted as CountedLength {
     }
 
     fn extent(self) -> u32 {
-        self.length
+        self.length()
     }
 }
