@@ -1,17 +1,19 @@
 -- Plain and counted lengths: lawful, and a counted length without its borders a plain one.
-use Prim.Native.Nat.{ℕ, _≤_}
+use Prim.Native.Nat.{_+_, _≤_, min}
 use native.Mathlib.Bridge.{le-prop}
+use native.Mathlib.Omega.{arith}
 use mathlib.Core.HLevel.{isProp→PathP}
 use mathlib.Core.Path.{_≡_, refl, ap, _∙_}
 use mathlib.Core.Bool.{Bool, true, false, cond}
 use lib.Dec.{leb}
 use Rattle.plans.specs.CarriedPackings.{Carries, PacksCarried}
-use Rattle.plans.specs.Kinds.{Kind, Lawful, Count, countAtMost, plainKind, countedKind}
+use Rattle.plans.specs.Kinds.{Lawful, countAtMost, plainKind, countedKind, sumLimit}
 use Rattle.plans.proofs.CarriedPackings.{packs-carried, long-carries}
 use Rattle.plans.proofs.KindLaws.{plain-lawful, counted-lawful}
 use Rattle.lengths.proofs.CopiedLaws.{copied-lawful}
-use Rattle.lengths.specs.CountedLengths.{countOf, countedLengths, withoutBorders}
+use Rattle.lengths.specs.CountedLengths.{countOf, countCapped, countedLengths, withoutBorders}
 use Rattle.lengths.specs.PlainLengths.{plainOf, plainLengths}
+use Rattle.lengths.specs.Sums.{greatest}
 use Rattle.lengths.specs.declared.counted.Counted.{Counted}
 use Rattle.lengths.specs.declared.plain.Plain.{Plain}
 
@@ -53,6 +55,15 @@ counted-same a b e k =
       borders = e k .borders;
       few = isProp→PathP (λ i. e i .borders ≤ e i .long) (λ i. le-prop) (a .few) (b .few) k;
     }
+
+-- within the limit neither the length nor the borders of a sum are stopped
+pub uncapped :
+    (a b : Counted) → a .length + b .length ≤ sumLimit
+    → countCapped (countOf a) (countOf b) ≡ countedKind .plus (countOf a) (countOf b)
+uncapped a b within =
+    let long : min (a .length + b .length) greatest ≡ a .length + b .length = omega arith in
+    let borders : min (a .borders + b .borders) greatest ≡ a .borders + b .borders = omega arith in
+    λ k. record { long = long k; borders = borders k }
 
 pub counted-laws : Lawful countedLengths
 counted-laws = copied-lawful countedLengths countedKind countOf count-carries (λ a b. refl) counted-same counted-lawful

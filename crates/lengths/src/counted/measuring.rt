@@ -5,6 +5,18 @@ ghost use Rattle.lengths.specs.Sums.{SumWithin};
 use crate::counted::Counted;
 use crate::length::Length;
 
+impl Counted {
+    // Length and borders added, each up to the greatest number.
+    fn added(self, other: Counted) -> Counted
+        ensures { λ r. ⌜ countOf r ≡ countCapped (countOf self) (countOf other) ⌝ }
+    {
+        Counted {
+            length: self.length.saturating_add(other.length),
+            borders: self.borders.saturating_add(other.borders),
+        }
+    }
+}
+
 pub impl Length for Counted as CountedLength {
     ghost kind = { countedLengths };
 
@@ -17,15 +29,12 @@ pub impl Length for Counted as CountedLength {
         Self::ZERO
     }
 
-    // Beyond the limit both sums stop at the greatest number.
+    // Beyond the limit length and borders stop at the greatest number.
     fn plus(self, other: Counted) -> Counted
         ensures sum { λ r. ⌜ SumWithin countedLengths self other r ⌝ }
         ensures capped { λ r. ⌜ countOf r ≡ countCapped (countOf self) (countOf other) ⌝ }
     {
-        Counted {
-            length: self.length.saturating_add(other.length),
-            borders: self.borders.saturating_add(other.borders),
-        }
+        self.added(other)
     }
 
     fn join(self, other: Counted) -> Counted {
