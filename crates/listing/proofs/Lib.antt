@@ -1,0 +1,2 @@
+-- Lemmas on what the listing writes.
+pub mod Spelled

@@ -1,0 +1,3 @@
+-- The definitions that the listing's contracts cite.
+pub mod Decimal
+pub mod Padded

@@ -1,0 +1,2 @@
+// The listing of a task as bytes.
+mod columns;
