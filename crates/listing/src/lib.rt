@@ -1,2 +1,3 @@
 // The listing of a task as bytes.
 mod columns;
+mod lines;
