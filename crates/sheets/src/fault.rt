@@ -1,5 +1,7 @@
 // What can be wrong with a sheet, and how a fault tells where.
 ghost use mathlib.Core.Path.{_≡_};
+ghost use Prim.Native.Nat.{_+_, _^_, _<_};
+ghost use Rattle.sheets.specs.Checks.{wholeFinding, lineFinding, fieldFinding};
 ghost use Rattle.sheets.specs.Faults.{numberOf, layerOf, sheetNumber};
 
 // What is wrong.
@@ -37,7 +39,7 @@ pub enum Sheet {
 
 // What is wrong and where: line and column count from 1 and are 0 where none is meant;
 // the field at fault is the part of the sheet at offset `from`, `width` bytes long.
-#[derive(Clone, Copy, PartialEq, Eq, Debug)]
+#[derive(Clone, Copy)]
 pub struct Finding {
     pub wrong: Wrong,
     pub sheet: Sheet,
@@ -48,7 +50,7 @@ pub struct Finding {
 }
 
 // A fault of reading, with the field at fault as a part of its sheet.
-#[derive(Clone, Copy, Debug)]
+#[derive(Clone, Copy)]
 pub struct Fault<'a> {
     pub wrong: Wrong,
     pub sheet: Sheet,
@@ -94,5 +96,36 @@ impl Sheet {
             Sheet::Sizes => 1,
             Sheet::Plan => 2,
         }
+    }
+}
+
+impl Finding {
+    // A fault of a list or of a whole sheet.
+    pub(crate) fn whole(wrong: Wrong, sheet: Sheet) -> Finding
+        ensures { λ r. ⌜ r ≡ wholeFinding wrong sheet ⌝ }
+    {
+        Finding { wrong, sheet, line: 0, column: 0, from: 0, width: 0 }
+    }
+
+    // A line that is missing, surplus or of wrong length.
+    pub(crate) fn line(sheet: Sheet, line: usize) -> Finding
+        ensures { λ r. ⌜ r ≡ lineFinding sheet line ⌝ }
+    {
+        Finding { wrong: Wrong::LineLength, sheet, line, column: 1, from: 0, width: 0 }
+    }
+
+    // A fault of the field that stands `offset` bytes into the line at `start`.
+    pub(crate) fn field(
+        wrong: Wrong,
+        sheet: Sheet,
+        line: usize,
+        start: usize,
+        offset: usize,
+        width: usize,
+    ) -> Finding
+        requires { ⌜ start + offset + 1 < 2 ^ 64 ⌝ }
+        ensures { λ r. ⌜ r ≡ fieldFinding wrong sheet line start offset width ⌝ }
+    {
+        Finding { wrong, sheet, line, column: offset + 1, from: start + offset, width }
     }
 }

@@ -4,6 +4,7 @@ ghost use lib.ListN.{length, drop};
 ghost use mathlib.Core.Bool.{cond};
 ghost use mathlib.Core.Path.{_≡_};
 ghost use Rattle.sheets.specs.Fields.{afterBlanks, allDigits, valueAfter, fieldNumber};
+ghost use Rattle.sheets.specs.Lines.{part};
 ghost use Rattle.std.specs.declared.option.Option.the-variants.{Some, None};
 
 // How many blanks a field begins with.
@@ -36,7 +37,7 @@ fn digits(field: &[u8], start: usize) -> Option<u32>
 }
 
 // The number that a field holds, if it is written as it should be.
-pub fn number(field: &[u8]) -> Option<u32>
+fn number(field: &[u8]) -> Option<u32>
     requires { ⌜ length (now field) < 10 ⌝ }
     ensures { λ r. ⌜ r ≡ fieldNumber (now (field .entry)) ⌝ }
 {
@@ -49,4 +50,12 @@ pub fn number(field: &[u8]) -> Option<u32>
         return None;
     }
     digits(field, start)
+}
+
+// The number in the field of `width` bytes at offset `from` of a sheet.
+pub fn number_at(sheet: &[u8], from: usize, width: usize) -> Option<u32>
+    requires { ⌜ from + width ≤ length (now sheet) ⌝ ∗ ⌜ width < 10 ⌝ }
+    ensures { λ r. ⌜ r ≡ fieldNumber (part (now (sheet .entry)) from width) ⌝ }
+{
+    number(&sheet[from..from + width])
 }

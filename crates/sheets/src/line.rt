@@ -1,10 +1,9 @@
 // Lines of a sheet, by their offsets.
 ghost use Prim.Native.Nat.{ℕ, _+_, _<_, _≤_};
+ghost use lib.Dec.{T};
 ghost use lib.ListN.{length};
-ghost use mathlib.Core.Bool.{cond};
 ghost use mathlib.Core.Path.{_≡_};
-ghost use Rattle.sheets.specs.Lines.{widthAt, nextLine, hasWidth};
-ghost use Rattle.std.specs.declared.option.Option.the-variants.{Some, None};
+ghost use Rattle.sheets.specs.Lines.{widthAt, hasWidth};
 
 // How many bytes the line at `start` has before its byte 10.
 pub fn line_width(sheet: &[u8], start: usize) -> usize
@@ -20,20 +19,15 @@ pub fn line_width(sheet: &[u8], start: usize) -> usize
     sheet.len() - start
 }
 
-// Where the next line starts, if the line at `start` has `width` bytes and its byte 10.
-pub fn line_end(sheet: &[u8], start: usize, width: usize) -> Option<usize>
+// Whether the line at `start` is there, has `width` bytes and ends in byte 10.
+pub fn has_width(sheet: &[u8], start: usize, width: usize) -> bool
     requires { ⌜ start ≤ length (now sheet) ⌝ }
-    ensures { λ r. ⌜ r ≡ cond (hasWidth (now (sheet .entry)) start width) (Some (nextLine (now (sheet .entry)) start)) None ⌝ }
+    ensures exact { λ r. ⌜ r ≡ hasWidth (now (sheet .entry)) start width ⌝ }
+    ensures within { λ r. ⌜ (T r → start + width < length (now (sheet .entry))) ⌝ }
 {
     if line_width(sheet, start) != width {
-        return None;
+        return false;
     }
     let end = start + width;
-    if end == sheet.len() {
-        return None;
-    }
-    if sheet[end] != b'\n' {
-        return None;
-    }
-    Some(end + 1)
+    end < sheet.len() && sheet[end] == b'\n'
 }
