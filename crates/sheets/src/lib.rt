@@ -1,0 +1,20 @@
+// The two sheets of a task: the sizes and the plan, parsed into lists, and the lines of the script.
+mod fault;
+mod field;
+mod head;
+mod line;
+mod parsed;
+mod place;
+mod rows;
+mod sequence;
+mod sizes;
+mod word;
+
+pub use fault::Fault;
+pub use fault::Finding;
+pub use fault::Layer;
+pub use fault::Sheet;
+pub use fault::Wrong;
+pub use parsed::Head;
+pub use parsed::Parsed;
+pub use place::Place;
