@@ -1,10 +1,14 @@
--- Lemmas on the caller's lists: one is filled one place further.
-use Prim.Native.Nat.{ℕ, _+_, _<_, _≤_}
-use mathlib.Core.Path.{_≡_, sym, _∙_, ap, subst}
+-- Lemmas on the caller's lists: one is filled one place further, and the places of a row of codes.
+use Prim.Native.Nat.{ℕ, _+_, _*_, _/_, _%_, _<_, _≤_}
+use mathlib.Core.Path.{_≡_, sym, _∙_, ap, ap₂, subst}
 use mathlib.Core.List.{List}
 use mathlib.Core.Bool.{Bool, cond}
 use mathlib.Core.Logic.{_≢_, ⊎-elim}
 use native.Mathlib.Omega.{arith}
+use native.Mathlib.Nat.{add-mul, one-mul}
+use Rattle.std.proofs.shelf.Bits.{mul-le, div-mul-add, mod-mul-add}
+use Rattle.sheets.specs.Lines.{lineStart}
+use Rattle.sheets.specs.Reading.{codeAt, codeRead}
 use lib.Dec.{ltb}
 use lib.ListN.{length, getD, set}
 use Rattle.std.proofs.shelf.Lists.{getD-set-same, getD-set-other}
@@ -30,3 +34,20 @@ filled-more nought f n xs x h e all k =
 -- a list of zeros is filled up to its start
 pub filled-none : {X : Type 0} (nought : X) (f : ℕ → X) (xs : List X) → Cleared nought xs → Filled nought f 0 xs
 filled-none nought f xs h k = h k ∙ sym (cond-false (ltb k 0) (f k) nought (le-ltb k 0 (omega arith)))
+
+-- one row more
+pub row-more : (i m : ℕ) → (i + 1) * m ≡ i * m + m
+row-more i m = add-mul i 1 m ∙ ap (λ (x : ℕ). i * m + x) (one-mul m)
+
+-- the codes of row i of m rows lie in a list with room for 64 rows of 64
+pub row-room : (i m n : ℕ) → i < m → m ≤ 64 → 4096 ≤ n → i * m + m ≤ n
+row-room i m n h small room =
+    let e : (i + 1) * m ≡ i * m + m = row-more i m in
+    omega (arith, mul-le (i + 1) m 64 64 (omega arith) small)
+
+-- the code at letter j of row i, whose line starts at s
+pub row-codes : (plan : List ℕ) (m i base s j : ℕ) → base ≡ i * m → s ≡ lineStart plan (i + 1) → j < m → codeRead plan m (base + j) ≡ codeAt plan (s + j)
+row-codes plan m i base s j b e h =
+    let q : (base + j) / m ≡ i = ap (λ x. (x + j) / m) b ∙ div-mul-add i m j h in
+    let r : (base + j) % m ≡ j = ap (λ x. (x + j) % m) b ∙ mod-mul-add i m j h in
+    ap₂ (λ a b. codeAt plan (lineStart plan (a + 1) + b)) q r ∙ ap (λ x. codeAt plan (x + j)) (sym e)
