@@ -65,18 +65,18 @@ stands-first [] f e = let z : _≡_ {A = ℕ} 0 1 = cc in absurd (omega arith)
 stands-first (x ∷ xs) f e =
     ⊎-elim
     (λ t. record {
-       place = 0;
-       within = omega arith;
-       found = (let h : Some (x .tells) ≡ Some f = sym (cond-true (x .applies) (Some (x .tells)) (first xs) t) ∙ e in let g : x .tells ≡ f = cc in λ i. record { applies = t i; tells = g i });
-       none-before = λ k h. absurd (omega arith)
-     })
+      place = 0;
+      within = omega arith;
+      found = (let h : Some (x .tells) ≡ Some f = sym (cond-true (x .applies) (Some (x .tells)) (first xs) t) ∙ e in let g : x .tells ≡ f = cc in λ i. record { applies = t i; tells = g i });
+      none-before = λ k h. absurd (omega arith);
+    })
     (λ n. let h = stands-first xs f (sym (cond-false (x .applies) (Some (x .tells)) (first xs) n) ∙ e) in
-       record {
-         place = suc (h .place);
-         within = suc-le-suc (h .within);
-         found = h .found;
-         none-before = before x xs f n h
-       })
+    record {
+      place = suc (h .place);
+      within = suc-le-suc (h .within);
+      found = h .found;
+      none-before = before x xs f n h;
+    })
     (cases-bool (x .applies))
   where
     before : (x : Check) (xs : List Check) (f : Finding) → x .applies ≡ false → (h : Stands-first xs f) → (k : ℕ) → k < suc (h .place) → getD (x ∷ xs) k (tell-if false f) .applies ≡ false

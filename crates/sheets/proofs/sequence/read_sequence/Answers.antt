@@ -23,11 +23,12 @@ returns-in-rest c =
     let m = c .args .modules in
     let j = c .loop-j .j in
     let inside : start + 4 * m < length plan = c .if-not-has-width .ensures tt .within tt in
-    rw (c .field .ensures)
-    ( line-passed plan start (4 * m) (lineFinding sheets.Plan line) (each m (placeChecks plan line start)) (c .if-not-has-width .ensures tt .exact)
-      ∙ loop-fault (placeChecks plan line start) j m (fieldFinding BadField sheets.Plan line start (4 * j) 4) (c .loop-j .inv .0) (c .loop-j-test .taken)
-        (single-fault (fieldNumber (part plan (start + 4 * j) 4)) (fieldFinding BadField sheets.Plan line start (4 * j) 4) (c .in-rest .ensures tt))
-    , (refl, omega arith) )
+    rw (c .field .ensures) (
+      line-passed plan start (4 * m) (lineFinding sheets.Plan line) (each m (placeChecks plan line start)) (c .if-not-has-width .ensures tt .exact)
+          ∙ loop-fault (placeChecks plan line start) j m (fieldFinding BadField sheets.Plan line start (4 * j) 4) (c .loop-j .inv .0) (c .loop-j-test .taken)
+          (single-fault (fieldNumber (part plan (start + 4 * j) 4)) (fieldFinding BadField sheets.Plan line start (4 * j) 4) (c .in-rest .ensures tt)),
+      (refl, omega arith, refl),
+    )
 
 pub loop-j-again : need.loop-j-again
 loop-j-again c =
@@ -36,7 +37,8 @@ loop-j-again c =
     let start = c .args .start in
     let m = c .args .modules in
     let j = c .loop-j .j in
-    let in-room : j < length (c .loop-j .places) = omega (arith, c .pre .room, c .pre .small) in
-    ( loop-more (placeChecks plan line start) j m (c .loop-j .inv .0) (c .loop-j-test .taken)
-        (single-none (fieldNumber (part plan (start + 4 * j) 4)) (c .in-Some .module) (fieldFinding BadField sheets.Plan line start (4 * j) 4) (c .in-Some .ensures tt))
-    , filled-more 0 (λ k. numberAt plan (start + 4 * k) 4) j (c .loop-j .places) (c .in-Some .module) in-room (ap (λ o. valueOr o 0) (c .in-Some .ensures tt)) (c .loop-j .inv .1) )
+    let in-room : j < length (c .loop-j .places) = omega (arith, c .pre .room, c .pre .small) in (
+      loop-more (placeChecks plan line start) j m (c .loop-j .inv .0) (c .loop-j-test .taken)
+          (single-none (fieldNumber (part plan (start + 4 * j) 4)) (c .in-Some .module) (fieldFinding BadField sheets.Plan line start (4 * j) 4) (c .in-Some .ensures tt)),
+      filled-more 0 (λ k. numberAt plan (start + 4 * k) 4) j (c .loop-j .places) (c .in-Some .module) in-room (ap (λ o. valueOr o 0) (c .in-Some .ensures tt)) (c .loop-j .inv .1),
+    )
