@@ -52,12 +52,12 @@ each-rest f i n h e = ap (λ (l : List ℕ). first (joined f l)) (counting-more 
 pub each-all : (f : ℕ → List Check) (i n : ℕ) → n - i ≡ 0 → first (joined f (counting i (n - i))) ≡ None
 each-all f i n e = ap (λ (k : ℕ). first (joined f (counting i k))) e ∙ first-none
 
--- an absent answer makes its check apply, a given one does not
-pub absent : {X : Type 0} {o : Option X} → o ≡ None → not (isSome o) ≡ true
-absent e = ap (λ o. not (isSome o)) e
+-- a single check that a field can be read: it tells its fault where there is nothing to read
+pub single-fault : {X : Type 0} (o : Option X) (f : Finding) → None ≡ o → first (tell-if (not (isSome o)) f ∷ []) ≡ Some f
+single-fault o f e = first-here (not (isSome o)) f [] (ap (λ q. not (isSome q)) (sym e))
 
-pub given : {X : Type 0} {o : Option X} {x : X} → o ≡ Some x → not (isSome o) ≡ false
-given e = ap (λ o. not (isSome o)) e
+pub single-none : {X : Type 0} (o : Option X) (x : X) (f : Finding) → Some x ≡ o → first (tell-if (not (isSome o)) f ∷ []) ≡ None
+single-none o x f e = first-next (not (isSome o)) f [] (ap (λ q. not (isSome q)) (sym e)) ∙ first-none
 
 -- the law of the first
 pub stands-first : (cs : List Check) (f : Finding) → first cs ≡ Some f → Stands-first cs f
@@ -65,18 +65,18 @@ stands-first [] f e = let z : _≡_ {A = ℕ} 0 1 = cc in absurd (omega arith)
 stands-first (x ∷ xs) f e =
     ⊎-elim
     (λ t. record {
-       place = 0;
-       within = omega arith;
-       found = (let h : Some (x .tells) ≡ Some f = sym (cond-true (x .applies) (Some (x .tells)) (first xs) t) ∙ e in let g : x .tells ≡ f = cc in λ i. record { applies = t i; tells = g i });
-       none-before = λ k h. absurd (omega arith)
-     })
+      place = 0;
+      within = omega arith;
+      found = (let h : Some (x .tells) ≡ Some f = sym (cond-true (x .applies) (Some (x .tells)) (first xs) t) ∙ e in let g : x .tells ≡ f = cc in λ i. record { applies = t i; tells = g i });
+      none-before = λ k h. absurd (omega arith);
+    })
     (λ n. let h = stands-first xs f (sym (cond-false (x .applies) (Some (x .tells)) (first xs) n) ∙ e) in
-       record {
-         place = suc (h .place);
-         within = suc-le-suc (h .within);
-         found = h .found;
-         none-before = before x xs f n h
-       })
+    record {
+      place = suc (h .place);
+      within = suc-le-suc (h .within);
+      found = h .found;
+      none-before = before x xs f n h;
+    })
     (cases-bool (x .applies))
   where
     before : (x : Check) (xs : List Check) (f : Finding) → x .applies ≡ false → (h : Stands-first xs f) → (k : ℕ) → k < suc (h .place) → getD (x ∷ xs) k (tell-if false f) .applies ≡ false

@@ -1,5 +1,6 @@
 -- Faults: the number and the layer of each, and the number of each sheet.
 use Prim.Native.Nat.{ℕ}
+use mathlib.Core.Bool.{Bool, true, false}
 use Rattle.sheets.specs.declared.fault.Wrong.{Wrong}
 use Rattle.sheets.specs.declared.fault.Wrong.the-variants.{ListTooShort, LineLength, UnknownWord, BadField, OutOfRange, SheetTooLong}
 use Rattle.sheets.specs.declared.fault.Layer.{Layer}
@@ -29,3 +30,12 @@ layerOf SheetTooLong = layers.Sheet
 abbrev pub sheetNumber : Sheet → ℕ
 sheetNumber Sizes = 1
 sheetNumber Plan = 2
+
+-- a fault sets every place of the caller's lists to zero, unless one of them is too short
+abbrev pub clears : Wrong → Bool
+clears ListTooShort = false
+clears LineLength = true
+clears UnknownWord = true
+clears BadField = true
+clears OutOfRange = true
+clears SheetTooLong = true

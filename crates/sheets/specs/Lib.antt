@@ -4,6 +4,7 @@ pub mod Faults
 pub mod Fields
 pub mod Lines
 pub mod Lists
+pub mod Parsing
 pub mod Promises
 pub mod Reading
 pub mod Words

@@ -24,12 +24,17 @@ badAt sheet s w = not (isSome (fieldNumber (part sheet s w)))
 abbrev pub modulesOf : List ℕ → ℕ
 modulesOf plan = numberAt plan 4 4
 
--- the room of the caller's lists, for 64 sides, 4,096 codes and 64 places, and then the bytes of each sheet
-abbrev pub roomChecks : List ℕ → List ℕ → ℕ → ℕ → ℕ → List Check
-roomChecks sizes plan sideRoom codeRoom placeRoom =
+-- the room of the caller's lists: 64 sides, 4,096 codes and 64 places, whatever the sheets hold
+abbrev pub listChecks : ℕ → ℕ → ℕ → List Check
+listChecks sideRoom codeRoom placeRoom =
     tell-if (ltb sideRoom 64) (wholeFinding ListTooShort Sizes)
     ∷ tell-if (ltb codeRoom 4096 || ltb placeRoom 64) (wholeFinding ListTooShort Plan)
-    ∷ tell-if (ltb 32768 (length sizes)) (wholeFinding SheetTooLong Sizes)
+    ∷ []
+
+-- the bytes of each sheet: 32,768 at most
+abbrev pub lengthChecks : List ℕ → List ℕ → List Check
+lengthChecks sizes plan =
+    tell-if (ltb 32768 (length sizes)) (wholeFinding SheetTooLong Sizes)
     ∷ tell-if (ltb 32768 (length plan)) (wholeFinding SheetTooLong Plan)
     ∷ []
 
@@ -97,17 +102,22 @@ sequenceChecks plan m n s =
     tell-if (not (hasWidth plan s (4 * m))) (lineFinding Plan n)
     ∷ each m (placeChecks plan n s)
 
--- everything behind the room: the head, the sizes, the rows, the sequence
+-- the line of the sequence, behind the rows
+abbrev pub lastChecks : List ℕ → ℕ → List Check
+lastChecks plan m = sequenceChecks plan m (m + 2) (lineStart plan (m + 1))
+
+-- the checks of the sheets: their bytes, then the head, the sizes, the rows and the sequence
 abbrev pub sheetChecks : List ℕ → List ℕ → List Check
 sheetChecks sizes plan =
-    headChecks plan
+    lengthChecks sizes plan
+    ++ (headChecks plan
     ++ (sizesChecks sizes (modulesOf plan)
     ++ (rowsChecks plan (modulesOf plan)
-    ++ sequenceChecks plan (modulesOf plan) (modulesOf plan + 2) (lineStart plan (modulesOf plan + 1))))
+    ++ lastChecks plan (modulesOf plan))))
 
 -- every check of the reading, in its order
 abbrev pub allChecks : List ℕ → List ℕ → ℕ → ℕ → ℕ → List Check
-allChecks sizes plan sideRoom codeRoom placeRoom = roomChecks sizes plan sideRoom codeRoom placeRoom ++ sheetChecks sizes plan
+allChecks sizes plan sideRoom codeRoom placeRoom = listChecks sideRoom codeRoom placeRoom ++ sheetChecks sizes plan
 
 -- the code of the letter at offset s
 abbrev pub codeAt : List ℕ → ℕ → ℕ

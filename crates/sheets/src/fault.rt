@@ -104,14 +104,28 @@ impl Finding {
     pub(crate) fn whole(wrong: Wrong, sheet: Sheet) -> Finding
         ensures { λ r. ⌜ r ≡ wholeFinding wrong sheet ⌝ }
     {
-        Finding { wrong, sheet, line: 0, column: 0, from: 0, width: 0 }
+        Finding {
+            wrong,
+            sheet,
+            line: 0,
+            column: 0,
+            from: 0,
+            width: 0,
+        }
     }
 
     // A line that is missing, surplus or of wrong length.
     pub(crate) fn line(sheet: Sheet, line: usize) -> Finding
         ensures { λ r. ⌜ r ≡ lineFinding sheet line ⌝ }
     {
-        Finding { wrong: Wrong::LineLength, sheet, line, column: 1, from: 0, width: 0 }
+        Finding {
+            wrong: Wrong::LineLength,
+            sheet,
+            line,
+            column: 1,
+            from: 0,
+            width: 0,
+        }
     }
 
     // A fault of the field that stands `offset` bytes into the line at `start`.
@@ -126,6 +140,13 @@ impl Finding {
         requires { ⌜ start + offset + 1 < 2 ^ 64 ⌝ }
         ensures { λ r. ⌜ r ≡ fieldFinding wrong sheet line start offset width ⌝ }
     {
-        Finding { wrong, sheet, line, column: offset + 1, from: start + offset, width }
+        Finding {
+            wrong,
+            sheet,
+            line,
+            column: offset + 1,
+            from: start + offset,
+            width,
+        }
     }
 }

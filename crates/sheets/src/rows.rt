@@ -14,7 +14,14 @@ use crate::line::has_width;
 use crate::word::code_of;
 
 // The letters of the line at `start`, written into the list from `base` on.
-fn read_row(plan: &[u8], line: usize, start: usize, modules: usize, base: usize, codes: &mut [u8]) -> Result<(), Finding>
+fn read_row(
+    plan: &[u8],
+    line: usize,
+    start: usize,
+    modules: usize,
+    base: usize,
+    codes: &mut [u8],
+) -> Result<(), Finding>
     requires starts { ⌜ start ≤ length (now plan) ⌝ }
     requires room { ⌜ base + modules ≤ length (now codes) ⌝ }
     requires here { ⌜ ((j : ℕ) → j < modules → codeRead (now plan) modules (base + j) ≡ codeAt (now plan) (start + j)) ⌝ }
@@ -39,7 +46,7 @@ pub fn read_rows(plan: &[u8], modules: usize, codes: &mut [u8]) -> Result<usize,
     requires room { ⌜ 4096 ≤ length (now codes) ⌝ }
     requires clear { ⌜ Cleared 0 (now codes) ⌝ }
     requires head { ⌜ Passed (now plan) 0 8 ⌝ }
-    ensures { λ r. ⌜ Reads sheets.Plan (now (plan .entry)) (rowsChecks (now (plan .entry)) modules) (λ s. (s ≡ lineStart (now (plan .entry)) (modules + 1)) × (s ≤ length (now (plan .entry))) × (9 + modules ≤ s) × Filled 0 (codeRead (now (plan .entry)) modules) (modules * modules) (now (codes .exit))) r ⌝ }
+    ensures { λ r. ⌜ Reads sheets.Plan (now (plan .entry)) (rowsChecks (now (plan .entry)) modules) (λ s. (s ≡ lineStart (now (plan .entry)) (modules + 1)) × (s ≤ length (now (plan .entry))) × Filled 0 (codeRead (now (plan .entry)) modules) (modules * modules) (now (codes .exit))) r ⌝ }
 {
     let mut start = 9;
     let mut base = 0;

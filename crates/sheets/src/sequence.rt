@@ -13,7 +13,13 @@ use crate::field::number_at;
 use crate::line::has_width;
 
 // The fields of the line at `start`, written into a list of zeros.
-pub fn read_sequence(plan: &[u8], line: usize, start: usize, modules: usize, places: &mut [usize]) -> Result<(), Finding>
+pub fn read_sequence(
+    plan: &[u8],
+    line: usize,
+    start: usize,
+    modules: usize,
+    places: &mut [usize],
+) -> Result<(), Finding>
     requires starts { ⌜ start ≤ length (now plan) ⌝ }
     requires small { ⌜ modules ≤ 64 ⌝ }
     requires room { ⌜ 64 ≤ length (now places) ⌝ }

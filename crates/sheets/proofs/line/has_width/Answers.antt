@@ -10,5 +10,5 @@ pub returns-else-end-sheet : need.returns-else-end-sheet
 returns-else-end-sheet c =
     record {
       exact = le-ltb _ _ (c .if-end-sheet .left) ∙ sym (line-cut (c .args .sheet .now) (c .args .start) (c .args .width) (c .if-end-sheet .left));
-      within = search needs
+      within = search needs;
     }

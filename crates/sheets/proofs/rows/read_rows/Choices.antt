@@ -15,6 +15,5 @@ Inv-loop-i l =
     (first (joined (moduleRowChecks (l .plan) (l .modules)) (counting (l .i) (l .modules - l .i))) ≡ first (each (l .modules) (moduleRowChecks (l .plan) (l .modules))))
     × (l .start ≡ lineStart (l .plan) (l .i + 1))
     × (l .start ≤ length (l .plan))
-    × (9 + l .i ≤ l .start)
     × (l .base ≡ l .i * l .modules)
     × Filled 0 (codeRead (l .plan) (l .modules)) (l .base) (l .codes)
