@@ -9,7 +9,7 @@ use Rattle.sheets.specs.Parsing.{Answers, Leaves}
 use Rattle.sheets.specs.Reading.{allChecks, listChecks, sheetChecks}
 use Rattle.sheets.proofs.CheckLemmas.{first-front, first-rest, stands-first, none-applies}
 use Rattle.sheets.proofs.ListLemmas.{left-kept, left-cleared}
-use Rattle.sheets.proofs.parse.parse.Needs as need
+use Rattle.sheets.proofs.reader.parse.Needs as need
 
 pub returns-in-Some : need.returns-in-Some
 returns-in-Some c =

@@ -15,7 +15,7 @@ use Rattle.sheets.specs.Parsing.{ofSheet, Parses, Read}
 use Rattle.sheets.specs.Reading.{codeRead, modulesOf, numberAt, sheetChecks}
 use Rattle.sheets.proofs.LineLemmas.{line-start-more}
 use Rattle.sheets.proofs.StageLemmas.{head-fault, head-passed, sizes-fault, sizes-passed, rows-fault, rows-passed}
-use Rattle.sheets.proofs.parse.read_all.Needs as need
+use Rattle.sheets.proofs.reader.read_all.Needs as need
 
 -- a field that lies in the sheet of one name lies in the sheet that its fault names
 inside : (sizes plan : List ℕ) (name : Sheet) (f : Finding) → f .sheet ≡ name → f .from + f .width ≤ length (ofSheet sizes plan name) → f .from + f .width ≤ length (ofSheet sizes plan (f .sheet))
