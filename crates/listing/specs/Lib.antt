@@ -2,3 +2,4 @@
 pub mod Decimal
 pub mod Padded
 pub mod Line
+pub mod Listed

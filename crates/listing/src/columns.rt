@@ -1,6 +1,8 @@
 // What a line of the listing is made of: words, numbers in columns, and the line's end.
 ghost use Prim.Native.Nat.{ℕ, _-_};
 ghost use Rattle.listing.specs.Padded.{blanks, padded};
+ghost use Rattle.sheets.specs.Fields.{fieldNumber};
+ghost use Rattle.std.specs.declared.option.Option.the-variants.{Some};
 ghost use Rattle.std.specs.Of.Vec.{vec-items};
 ghost use Rattle.std.specs.Vec.{made};
 ghost use mathlib.Core.List.{List, [], _++_, _∷_};
@@ -16,7 +18,8 @@ pub(crate) fn append_word(out: &mut Vec<u8>, word: &[u8]) -> Result<(), AllocErr
 
 // Appends a number, right-aligned in `width` columns; a longer one is written whole.
 pub(crate) fn append_number(out: &mut Vec<u8>, width: usize, n: u64) -> Result<(), AllocError>
-    ensures { λ r. ⌜ made r (λ _. vec-items (now (out .exit)) ≡ vec-items (now (out .entry)) ++ padded width n) ⌝ }
+    ensures bytes { λ r. ⌜ made r (λ _. vec-items (now (out .exit)) ≡ vec-items (now (out .entry)) ++ padded width n) ⌝ }
+    ensures reads_back { λ r. ⌜ made r (λ _. fieldNumber (padded width n) ≡ Some n) ⌝ }
 {
     let digits = n.to_string(out.allocator())?;
     append_blanks(out, width.saturating_sub(digits.len()))?;
