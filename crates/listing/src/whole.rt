@@ -1,12 +1,16 @@
 // The whole listing of a task.
+ghost use Rattle.listing.specs.Line.{failLine};
 ghost use Rattle.listing.specs.Listed.{listingOf, wordOf};
+ghost use Rattle.sheets.specs.Faults.{numberOf, sheetNumber};
 ghost use Rattle.std.specs.Of.Vec.{vec-items};
 ghost use Rattle.std.specs.Vec.{made};
+ghost use mathlib.Core.List.{_++_};
 ghost use mathlib.Core.Path.{_≡_};
 use crate::lines::append_answer;
 use crate::lines::append_fail;
 use lengths::Plain;
 use lengths::Sides;
+use sheets::Fault;
 use sheets::Head;
 use sheets::parse;
 use std::alloc::AllocError;
@@ -26,15 +30,22 @@ pub fn listing<'a>(heap: Global, sizes: &'a [u8], plan: &'a [u8]) -> Result<Vec<
     let mut out = Vec::new(heap);
     match parse(sizes, plan, &mut sides, &mut codes, &mut places) {
         Ok(parsed) => append_answer(&mut out, word(parsed.head), parsed.modules as u64)?,
-        Err(fault) => append_fail(
-            &mut out,
-            fault.wrong.number() as u64,
-            fault.sheet.number() as u64,
-            fault.line as u64,
-            fault.column as u64,
-        )?,
+        Err(fault) => append_fault(&mut out, fault)?,
     }
     Ok(out)
+}
+
+// Appends the line of a fault that the reading answered.
+fn append_fault(out: &mut Vec<u8>, fault: Fault<'_>) -> Result<(), AllocError>
+    ensures { λ r. ⌜ made r (λ _. vec-items (now (out .exit)) ≡ vec-items (now (out .entry)) ++ failLine (numberOf (fault .entry .wrong)) (sheetNumber (fault .entry .sheet)) (fault .entry .line) (fault .entry .column)) ⌝ }
+{
+    append_fail(
+        out,
+        fault.wrong.number() as u64,
+        fault.sheet.number() as u64,
+        fault.line as u64,
+        fault.column as u64,
+    )
 }
 
 // How the head's word is written.
