@@ -3,6 +3,7 @@ mod command;
 mod fault;
 mod field;
 mod head;
+mod lending;
 mod line;
 mod parsed;
 mod place;
@@ -12,6 +13,7 @@ mod script;
 mod sequence;
 mod sizes;
 mod word;
+mod zeros;
 
 pub use command::Command;
 pub use command::ScriptLine;
