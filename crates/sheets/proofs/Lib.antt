@@ -3,4 +3,5 @@ pub mod CheckLemmas
 pub mod FieldLemmas
 pub mod LineLemmas
 pub mod ListLemmas
+pub mod ScriptLemmas
 pub mod StageLemmas

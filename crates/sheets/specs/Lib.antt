@@ -7,4 +7,5 @@ pub mod Lists
 pub mod Parsing
 pub mod Promises
 pub mod Reading
+pub mod Script
 pub mod Words

@@ -22,6 +22,10 @@ Cleared nought xs = (k : ℕ) → getD xs k nought ≡ nought
 abbrev pub sidesOf : ℕ → ℕ → Sides Plain
 sidesOf w h = record { width = record { 0 = w }; height = record { 0 = h } }
 
+-- the side that stands o bytes into line k of the sizes sheet
+abbrev pub sideAt : List ℕ → ℕ → ℕ → ℕ
+sideAt sizes k o = numberAt sizes (lineStart sizes k + o) 8
+
 -- the sides on line k of the sizes sheet
 abbrev pub sidesRead : List ℕ → ℕ → Sides Plain
-sidesRead sizes k = sidesOf (numberAt sizes (lineStart sizes k + 0) 8) (numberAt sizes (lineStart sizes k + 8) 8)
+sidesRead sizes k = sidesOf (sideAt sizes k 0) (sideAt sizes k 8)

@@ -1,5 +1,5 @@
 // Parsing the two sheets into the caller's lists.
-ghost use Prim.Native.Nat.{_+_, _≤_};
+ghost use Prim.Native.Nat.{_≤_};
 ghost use lib.ListN.{length};
 ghost use mathlib.Core.Bool.{false};
 ghost use mathlib.Core.Path.{_≡_};
@@ -7,19 +7,21 @@ ghost use Rattle.std.specs.Options.{Cases};
 ghost use Rattle.sheets.specs.Checks.{first};
 ghost use Rattle.sheets.specs.Faults.{clears};
 ghost use Rattle.sheets.specs.Lists.{Cleared, sidesOf};
-ghost use Rattle.sheets.specs.Parsing.{Answers, First-of, Leaves, Reads-all, Tells, ofSheet};
+ghost use Rattle.sheets.specs.Parsing.{Answers, First-of, Leaves, Reads-all, held};
 ghost use Rattle.sheets.specs.Promises.{failure};
-ghost use Rattle.sheets.specs.Reading.{allChecks, lengthChecks, listChecks};
+ghost use Rattle.sheets.specs.Reading.{lengthChecks, listChecks};
 use crate::fault::Fault;
 use crate::fault::Finding;
 use crate::fault::Sheet;
 use crate::fault::Wrong;
 use crate::head::read_head;
+use crate::lending::lend_from;
 use crate::parsed::Parsed;
 use crate::place::Place;
 use crate::rows::read_rows;
 use crate::sequence::read_sequence;
 use crate::sizes::read_sizes;
+use crate::zeros::clear_all;
 use lengths::Plain;
 use lengths::Sides;
 
@@ -50,59 +52,6 @@ fn check_lengths(sizes: &[u8], plan: &[u8]) -> Result<(), Finding>
     Ok(())
 }
 
-// Writes `zero` into every place of a list.
-fn clear<T: Copy>(list: &mut [T], zero: T)
-    ensures { λ _. ⌜ Cleared zero (now (list .exit)) ⌝ }
-{
-    for place in list.iter_mut() {
-        *place = zero;
-    }
-}
-
-// Sets every place of the three lists to zero.
-fn clear_all(sides: &mut [Sides<Plain>], codes: &mut [u8], places: &mut [usize])
-    ensures sides { λ _. ⌜ Cleared (sidesOf 0 0) (now (sides .exit)) ⌝ }
-    ensures codes { λ _. ⌜ Cleared 0 (now (codes .exit)) ⌝ }
-    ensures places { λ _. ⌜ Cleared 0 (now (places .exit)) ⌝ }
-{
-    clear(
-        sides,
-        Sides {
-            width: Plain(0),
-            height: Plain(0),
-        },
-    );
-    clear(codes, 0);
-    clear(places, 0);
-}
-
-// The fault that tells a finding, with its field as a part of the sheet.
-pub fn lend<'a>(sheet: &'a [u8], finding: Finding) -> Fault<'a>
-    requires { ⌜ finding .from + finding .width ≤ length (now sheet) ⌝ }
-    ensures { λ r. ⌜ Tells (sheet .entry) finding r ⌝ }
-{
-    let from = finding.from;
-    let end = from + finding.width;
-    Fault {
-        wrong: finding.wrong,
-        sheet: finding.sheet,
-        line: finding.line,
-        column: finding.column,
-        field: &sheet[from..end],
-    }
-}
-
-// The same, of the sheet that the finding names.
-fn lend_from<'a>(sizes: &'a [u8], plan: &'a [u8], finding: Finding) -> Fault<'a>
-    requires { ⌜ finding .from + finding .width ≤ length (ofSheet (now sizes) (now plan) (finding .sheet)) ⌝ }
-    ensures { λ r. ⌜ Tells (ofSheet (sizes .entry) (plan .entry) (finding .sheet)) finding r ⌝ }
-{
-    match finding.sheet {
-        Sheet::Sizes => lend(sizes, finding),
-        Sheet::Plan => lend(plan, finding),
-    }
-}
-
 // Both sheets, read into lists of zeros.
 fn read_all(
     sizes: &[u8],
@@ -114,7 +63,7 @@ fn read_all(
     requires sides { ⌜ 64 ≤ length (now sides) ⌝ ∗ ⌜ Cleared (sidesOf 0 0) (now sides) ⌝ }
     requires codes { ⌜ 4096 ≤ length (now codes) ⌝ ∗ ⌜ Cleared 0 (now codes) ⌝ }
     requires places { ⌜ 64 ≤ length (now places) ⌝ ∗ ⌜ Cleared 0 (now places) ⌝ }
-    ensures { λ r. ⌜ Reads-all (now (sizes .entry)) (now (plan .entry)) (now (sides .exit)) (now (codes .exit)) (now (places .exit)) r ⌝ }
+    ensures { λ r. ⌜ Reads-all (now (sizes .entry)) (now (plan .entry)) (held (sides .exit) (codes .exit) (places .exit)) r ⌝ }
 {
     check_lengths(sizes, plan)?;
     let (head, modules) = read_head(plan)?;
@@ -141,9 +90,9 @@ pub fn parse<'a>(
     codes: &mut [u8],
     places: &mut [usize],
 ) -> Result<Parsed, Fault<'a>>
-    ensures answer { λ r. ⌜ Answers (sizes .entry) (plan .entry) (first (allChecks (now (sizes .entry)) (now (plan .entry)) (length (now (sides .entry))) (length (now (codes .entry))) (length (now (places .entry))))) r ⌝ }
-    ensures lists { λ _. ⌜ Leaves (now (sizes .entry)) (now (plan .entry)) (first (allChecks (now (sizes .entry)) (now (plan .entry)) (length (now (sides .entry))) (length (now (codes .entry))) (length (now (places .entry))))) (now (sides .entry)) (now (sides .exit)) (now (codes .entry)) (now (codes .exit)) (now (places .entry)) (now (places .exit)) ⌝ }
-    ensures law { λ r. ⌜ First-of (sizes .entry) (plan .entry) (allChecks (now (sizes .entry)) (now (plan .entry)) (length (now (sides .entry))) (length (now (codes .entry))) (length (now (places .entry)))) r ⌝ }
+    ensures answer { λ r. ⌜ Answers (sizes .entry) (plan .entry) (held (sides .entry) (codes .entry) (places .entry)) r ⌝ }
+    ensures lists { λ _. ⌜ Leaves (now (sizes .entry)) (now (plan .entry)) (held (sides .entry) (codes .entry) (places .entry)) (held (sides .exit) (codes .exit) (places .exit)) ⌝ }
+    ensures law { λ r. ⌜ First-of (sizes .entry) (plan .entry) (held (sides .entry) (codes .entry) (places .entry)) r ⌝ }
 {
     if let Some(finding) = short_list(sides.len(), codes.len(), places.len()) {
         return Err(lend_from(sizes, plan, finding));

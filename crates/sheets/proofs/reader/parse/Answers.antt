@@ -5,7 +5,7 @@ use Rattle.std.specs.declared.option.Option.the-variants.{None, Some}
 use Rattle.std.specs.declared.result.Result.the-variants.{Ok, Err}
 use Rattle.sheets.specs.Checks.{first}
 use Rattle.sheets.specs.Lists.{sidesOf}
-use Rattle.sheets.specs.Parsing.{Answers, Leaves}
+use Rattle.sheets.specs.Parsing.{Answers-by, Leaves-by, Held}
 use Rattle.sheets.specs.Reading.{allChecks, listChecks, sheetChecks}
 use Rattle.sheets.proofs.CheckLemmas.{first-front, first-rest, stands-first, none-applies}
 use Rattle.sheets.proofs.ListLemmas.{left-kept, left-cleared}
@@ -20,12 +20,13 @@ returns-in-Some c =
     let places = c .args .places .now in
     let f = c .in-Some .finding in
     let kept = c .in-Some .ensures tt .kept in
+    let before : Held = record { sides = sides; codes = codes; places = places } in
     let all = allChecks sizes plan (length sides) (length codes) (length places) in
     let e : first all ≡ Some f = first-front (listChecks (length sides) (length codes) (length places)) (sheetChecks sizes plan) f (sym (c .in-Some .ensures tt .exact)) in
     record {
-      answer = subst (λ o. Answers (c .args .sizes) (c .args .plan) o (Err (c .lend-from .result))) (sym e) (c .lend-from .ensures);
+      answer = subst (λ o. Answers-by (c .args .sizes) (c .args .plan) o (Err (c .lend-from .result))) (sym e) (c .lend-from .ensures);
       lists =
-          subst (λ o. Leaves sizes plan o sides sides codes codes places places) (sym e)
+          subst (λ o. Leaves-by sizes plan o before before) (sym e)
           (left-kept (sidesOf 0 0) (f .wrong) sides kept, left-kept 0 (f .wrong) codes kept, left-kept 0 (f .wrong) places kept);
       law = (f, stands-first all f e, c .lend-from .ensures);
     }
@@ -38,11 +39,13 @@ returns-in-Ok c =
     let codes = c .args .codes .now in
     let places = c .args .places .now in
     let done = c .in-Ok .ensures tt in
+    let before : Held = record { sides = sides; codes = codes; places = places } in
+    let after : Held = record { sides = c .read-all .last .sides; codes = c .read-all .last .codes; places = c .read-all .last .places } in
     let all = allChecks sizes plan (length sides) (length codes) (length places) in
     let e : first all ≡ None = first-rest (listChecks (length sides) (length codes) (length places)) (sheetChecks sizes plan) (sym (c .in-rest .ensures tt .exact)) ∙ done .0 in
     record {
-      answer = subst (λ o. Answers (c .args .sizes) (c .args .plan) o (Ok (c .in-Ok .parsed))) (sym e) (done .1);
-      lists = subst (λ o. Leaves sizes plan o sides (c .read-all .last .sides) codes (c .read-all .last .codes) places (c .read-all .last .places)) (sym e) (done .2);
+      answer = subst (λ o. Answers-by (c .args .sizes) (c .args .plan) o (Ok (c .in-Ok .parsed))) (sym e) (done .1);
+      lists = subst (λ o. Leaves-by sizes plan o before after) (sym e) (done .2);
       law = none-applies all e;
     }
 
@@ -56,12 +59,14 @@ returns-in-Err c =
     let f = c .in-Err .finding in
     let found = c .in-Err .ensures tt in
     let clear = c .clear-all-in-Err .ensures in
+    let before : Held = record { sides = sides; codes = codes; places = places } in
+    let after : Held = record { sides = c .clear-all-in-Err .last .sides; codes = c .clear-all-in-Err .last .codes; places = c .clear-all-in-Err .last .places } in
     let all = allChecks sizes plan (length sides) (length codes) (length places) in
     let e : first all ≡ Some f = first-rest (listChecks (length sides) (length codes) (length places)) (sheetChecks sizes plan) (sym (c .in-rest .ensures tt .exact)) ∙ found .0 in
     record {
-      answer = subst (λ o. Answers (c .args .sizes) (c .args .plan) o (Err (c .lend-from-in-Err .result))) (sym e) (c .lend-from-in-Err .ensures);
+      answer = subst (λ o. Answers-by (c .args .sizes) (c .args .plan) o (Err (c .lend-from-in-Err .result))) (sym e) (c .lend-from-in-Err .ensures);
       lists =
-          subst (λ o. Leaves sizes plan o sides (c .clear-all-in-Err .last .sides) codes (c .clear-all-in-Err .last .codes) places (c .clear-all-in-Err .last .places)) (sym e)
+          subst (λ o. Leaves-by sizes plan o before after) (sym e)
           (left-cleared (sidesOf 0 0) (f .wrong) sides _ (found .2) (clear .sides), left-cleared 0 (f .wrong) codes _ (found .2) (clear .codes), left-cleared 0 (f .wrong) places _ (found .2) (clear .places));
       law = (f, stands-first all f e, c .lend-from-in-Err .ensures);
     }

@@ -3,7 +3,7 @@ use Prim.Native.Nat.{_<_, _≤_}
 use native.Mathlib.Omega.{arith}
 use lib.ListN.{length}
 use Rattle.sheets.proofs.ListLemmas.{cleared-more, cleared-all}
-use Rattle.sheets.proofs.reader.clear.Needs as need
+use Rattle.sheets.proofs.zeros.clear.Needs as need
 
 pub loop-place-again : need.loop-place-again
 loop-place-again g c =
