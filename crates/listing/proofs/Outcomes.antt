@@ -4,7 +4,7 @@ use Rattle.sheets.specs.Faults.{numberOf, sheetNumber}
 use Rattle.listing.specs.Line.{failLine, wordLine}
 use Rattle.sheets.specs.Lines.{part}
 use Rattle.listing.specs.Listed.{outcome, headLine, wordOf}
-use Rattle.sheets.specs.Parsing.{Answers}
+use Rattle.sheets.specs.Parsing.{Answers-by}
 use Rattle.sheets.specs.Reading.{modulesOf}
 use Rattle.sheets.specs.Words.{headWord}
 use Rattle.sheets.specs.declared.fault.Fault.{Fault}
@@ -18,12 +18,12 @@ use mathlib.Core.List.{List}
 use mathlib.Core.Path.{_≡_, sym, ap, _∙_}
 
 -- a done reading: the line of its head
-pub done-listed : (sizes plan : RefT (List ℕ)) (o : Option Finding) (p : Parsed) → Answers sizes plan o (Ok p) → outcome o (headWord (part (now plan) 0 4)) (modulesOf (now plan)) ≡ wordLine (wordOf (p .head)) (p .modules)
+pub done-listed : (sizes plan : RefT (List ℕ)) (o : Option Finding) (p : Parsed) → Answers-by sizes plan o (Ok p) → outcome o (headWord (part (now plan) 0 4)) (modulesOf (now plan)) ≡ wordLine (wordOf (p .head)) (p .modules)
 done-listed sizes plan None p a =
     ap (λ h. headLine h (modulesOf (now plan))) (a .head) ∙ ap (wordLine (wordOf (p .head))) (sym (a .modules))
 done-listed sizes plan (Some f) p a = absurd a
 
 -- a fault: its line
-pub fault-listed : (sizes plan : RefT (List ℕ)) (o : Option Finding) (e : Fault) → Answers sizes plan o (Err e) → outcome o (headWord (part (now plan) 0 4)) (modulesOf (now plan)) ≡ failLine (numberOf (e .wrong)) (sheetNumber (e .sheet)) (e .line) (e .column)
+pub fault-listed : (sizes plan : RefT (List ℕ)) (o : Option Finding) (e : Fault) → Answers-by sizes plan o (Err e) → outcome o (headWord (part (now plan) 0 4)) (modulesOf (now plan)) ≡ failLine (numberOf (e .wrong)) (sheetNumber (e .sheet)) (e .line) (e .column)
 fault-listed sizes plan None e a = absurd a
 fault-listed sizes plan (Some f) e a = simp (a .wrong, a .named, a .line, a .column)
