@@ -1,9 +1,8 @@
 -- What the answer of the reading says of the listing, by its two outcomes.
 use Prim.Native.Nat.{ℕ}
-use Rattle.sheets.specs.Faults.{numberOf, sheetNumber}
-use Rattle.listing.specs.Line.{failLine, wordLine}
+use Rattle.listing.specs.Line.{wordLine}
 use Rattle.sheets.specs.Lines.{part}
-use Rattle.listing.specs.Listed.{outcome, headLine, wordOf}
+use Rattle.listing.specs.Listed.{faultLine, headLine, outcome, wordOf}
 use Rattle.sheets.specs.Parsing.{Answers-by}
 use Rattle.sheets.specs.Reading.{modulesOf}
 use Rattle.sheets.specs.Words.{headWord}
@@ -24,6 +23,6 @@ done-listed sizes plan None p a =
 done-listed sizes plan (Some f) p a = absurd a
 
 -- a fault: its line
-pub fault-listed : (sizes plan : RefT (List ℕ)) (o : Option Finding) (e : Fault) → Answers-by sizes plan o (Err e) → outcome o (headWord (part (now plan) 0 4)) (modulesOf (now plan)) ≡ failLine (numberOf (e .wrong)) (sheetNumber (e .sheet)) (e .line) (e .column)
+pub fault-listed : (sizes plan : RefT (List ℕ)) (o : Option Finding) (e : Fault) → Answers-by sizes plan o (Err e) → outcome o (headWord (part (now plan) 0 4)) (modulesOf (now plan)) ≡ faultLine (e .wrong) (e .sheet) (e .line) (e .column)
 fault-listed sizes plan None e a = absurd a
 fault-listed sizes plan (Some f) e a = simp (a .wrong, a .named, a .line, a .column)

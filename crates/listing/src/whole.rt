@@ -1,7 +1,5 @@
 // The whole listing of a task.
-ghost use Rattle.listing.specs.Line.{failLine};
-ghost use Rattle.listing.specs.Listed.{listingOf, wordOf};
-ghost use Rattle.sheets.specs.Faults.{numberOf, sheetNumber};
+ghost use Rattle.listing.specs.Listed.{faultLine, listingOf, wordOf};
 ghost use Rattle.std.specs.Of.Vec.{vec-items};
 ghost use Rattle.std.specs.Vec.{made};
 ghost use mathlib.Core.List.{_++_};
@@ -37,7 +35,7 @@ pub fn listing<'a>(heap: Global, sizes: &'a [u8], plan: &'a [u8]) -> Result<Vec<
 
 // Appends the line of a fault that the reading answered.
 fn append_fault(out: &mut Vec<u8>, fault: Fault<'_>) -> Result<(), AllocError>
-    ensures { λ r. ⌜ made r (λ _. vec-items (now (out .exit)) ≡ vec-items (now (out .entry)) ++ failLine (numberOf (fault .entry .wrong)) (sheetNumber (fault .entry .sheet)) (fault .entry .line) (fault .entry .column)) ⌝ }
+    ensures { λ r. ⌜ made r (λ _. vec-items (now (out .exit)) ≡ vec-items (now (out .entry)) ++ faultLine (fault .entry .wrong) (fault .entry .sheet) (fault .entry .line) (fault .entry .column)) ⌝ }
 {
     append_fail(
         out,
