@@ -4,16 +4,13 @@ use mathlib.Core.Path.{_≡_, refl, sym, _∙_, ap}
 use mathlib.Core.List.{List, [], _∷_, _++_}
 use mathlib.Core.Bool.{Bool, true, false, not}
 use native.Mathlib.Omega.{arith}
-use lib.Dec.{ltb}
-use lib.ListN.{length}
 use Rattle.std.specs.Iters.{counting}
 use Rattle.std.specs.Joined.{joined}
 use Rattle.std.specs.declared.option.Option.the-variants.{Some, None}
-use Rattle.std.proofs.shelf.Tests.{lt-ltb, le-ltb}
 use Rattle.sheets.specs.declared.fault.Finding.{Finding}
 use Rattle.sheets.specs.declared.fault.Sheet.the-variants.{Sizes, Plan}
 use Rattle.sheets.specs.Checks.{Check, tell-if, each, first, lineFinding}
-use Rattle.sheets.specs.Lines.{lineStart, hasWidth}
+use Rattle.sheets.specs.Lines.{lineStart, goesOn, hasWidth}
 use Rattle.sheets.specs.Reading.{modulesOf, sideChecks, sizeLineChecks, sizeChecks, sizesChecks, rowsChecks, sequenceChecks, lastChecks, lengthChecks, headChecks, sheetChecks}
 use Rattle.sheets.proofs.CheckLemmas.{first-here, first-next, first-front, first-rest, first-none, each-front, each-rest, each-all}
 
@@ -31,15 +28,15 @@ height-fault sizes n s f h none e =
     line-passed sizes s 16 (lineFinding Sizes n) (sideChecks sizes n s 0 ++ sideChecks sizes n s 8) h ∙ first-rest (sideChecks sizes n s 0) (sideChecks sizes n s 8) none ∙ e
 
 -- the surplus line decides where no line of a module has a fault
-pub surplus-found : (sizes : List ℕ) (m : ℕ) → first (each m (sizeChecks sizes)) ≡ None → lineStart sizes m < length sizes → first (sizesChecks sizes m) ≡ Some (lineFinding Sizes (m + 1))
+pub surplus-found : (sizes : List ℕ) (m : ℕ) → first (each m (sizeChecks sizes)) ≡ None → goesOn sizes (lineStart sizes m) ≡ true → first (sizesChecks sizes m) ≡ Some (lineFinding Sizes (m + 1))
 surplus-found sizes m none h =
-    first-rest (each m (sizeChecks sizes)) (tell-if (ltb (lineStart sizes m) (length sizes)) (lineFinding Sizes (m + 1)) ∷ []) none
-    ∙ first-here (ltb (lineStart sizes m) (length sizes)) (lineFinding Sizes (m + 1)) [] (lt-ltb (lineStart sizes m) (length sizes) h)
+    first-rest (each m (sizeChecks sizes)) (tell-if (goesOn sizes (lineStart sizes m)) (lineFinding Sizes (m + 1)) ∷ []) none
+    ∙ first-here (goesOn sizes (lineStart sizes m)) (lineFinding Sizes (m + 1)) [] h
 
-pub surplus-none : (sizes : List ℕ) (m : ℕ) → first (each m (sizeChecks sizes)) ≡ None → length sizes ≤ lineStart sizes m → first (sizesChecks sizes m) ≡ None
+pub surplus-none : (sizes : List ℕ) (m : ℕ) → first (each m (sizeChecks sizes)) ≡ None → goesOn sizes (lineStart sizes m) ≡ false → first (sizesChecks sizes m) ≡ None
 surplus-none sizes m none h =
-    first-rest (each m (sizeChecks sizes)) (tell-if (ltb (lineStart sizes m) (length sizes)) (lineFinding Sizes (m + 1)) ∷ []) none
-    ∙ first-next (ltb (lineStart sizes m) (length sizes)) (lineFinding Sizes (m + 1)) [] (le-ltb (lineStart sizes m) (length sizes) h)
+    first-rest (each m (sizeChecks sizes)) (tell-if (goesOn sizes (lineStart sizes m)) (lineFinding Sizes (m + 1)) ∷ []) none
+    ∙ first-next (goesOn sizes (lineStart sizes m)) (lineFinding Sizes (m + 1)) [] h
     ∙ first-none
 
 -- a loop over i below m: F holds the checks of each i

@@ -16,6 +16,7 @@ afterBlanks (b ∷ bs) = cond (eqb b 32) (afterBlanks bs) (b ∷ bs)
 abbrev pub isDigit : ℕ → Bool
 isDigit b = leb 48 b && leb b 57
 
+-- every byte is a digit
 abbrev pub allDigits : List ℕ → Bool
 allDigits [] = true
 allDigits (b ∷ bs) = isDigit b && allDigits bs

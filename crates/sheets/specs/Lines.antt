@@ -2,8 +2,8 @@
 use Prim.Native.Nat.{ℕ, zero, suc, _+_}
 use mathlib.Core.List.{List, [], _∷_}
 use mathlib.Core.Bool.{Bool, cond, _&&_}
-use lib.Dec.{eqb}
-use lib.ListN.{getD, take, drop}
+use lib.Dec.{eqb, ltb}
+use lib.ListN.{length, getD, take, drop}
 
 -- how many bytes stand before the first byte 10, or how many there are where there is none
 abbrev pub lineWidth : List ℕ → ℕ
@@ -22,6 +22,10 @@ nextLine sheet s = s + widthAt sheet s + 1
 abbrev pub lineStart : List ℕ → ℕ → ℕ
 lineStart sheet zero = 0
 lineStart sheet (suc k) = nextLine sheet (lineStart sheet k)
+
+-- the sheet goes on at s: it has a byte there
+abbrev pub goesOn : List ℕ → ℕ → Bool
+goesOn sheet s = ltb s (length sheet)
 
 -- the line at s is there, has w bytes, and ends in byte 10
 abbrev pub hasWidth : List ℕ → ℕ → ℕ → Bool

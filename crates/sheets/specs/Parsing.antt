@@ -46,12 +46,13 @@ pub record Parses (plan : List ℕ) (p : Parsed) : Type 0 where
   pub offset : p .script .offset ≡ lineStart plan (modulesOf plan + 2)
   pub line : p .script .line ≡ modulesOf plan + 3
 
--- what the caller's three lists hold
+-- the contents of the three lists
 pub record Held : Type 0 where
   pub sides : List (Sides Plain)
   pub codes : List ℕ
   pub places : List ℕ
 
+-- what three lists of the caller's hold
 abbrev pub held : RefT (List (Sides Plain)) → RefT (List ℕ) → RefT (List ℕ) → Held
 held s c p = record { sides = now s; codes = now c; places = now p }
 
@@ -76,10 +77,11 @@ Answers-by sizes plan None (Err e) = ⊥
 Answers-by sizes plan (Some f) (Ok p) = ⊥
 Answers-by sizes plan (Some f) (Err e) = Tells (ofSheet sizes plan (f .sheet)) f e
 
+-- the answer, by the first fault of these sheets and lists
 abbrev pub Answers : RefT (List ℕ) → RefT (List ℕ) → Held → Result Parsed Fault → Type 0
 Answers sizes plan h r = Answers-by sizes plan (first (checksFor (now sizes) (now plan) h)) r
 
--- the lists by the first fault
+-- the lists by the first fault: what was read, or what the fault leaves
 abbrev pub Leaves-by : List ℕ → List ℕ → Option Finding → Held → Held → Type 0
 Leaves-by sizes plan None before after = Read sizes plan after
 Leaves-by sizes plan (Some f) before after =
@@ -87,6 +89,7 @@ Leaves-by sizes plan (Some f) before after =
     × Left 0 (f .wrong) (before .codes) (after .codes)
     × Left 0 (f .wrong) (before .places) (after .places)
 
+-- what is left in the lists, by the first fault of these sheets and lists
 abbrev pub Leaves : List ℕ → List ℕ → Held → Held → Type 0
 Leaves sizes plan before after = Leaves-by sizes plan (first (checksFor sizes plan before)) before after
 

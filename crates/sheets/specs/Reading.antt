@@ -9,7 +9,7 @@ use Rattle.sheets.specs.declared.fault.Wrong.the-variants.{ListTooShort, Unkno
 use Rattle.sheets.specs.declared.fault.Sheet.the-variants.{Sizes, Plan}
 use Rattle.sheets.specs.Checks.{Check, tell-if, each, wholeFinding, lineFinding, fieldFinding}
 use Rattle.sheets.specs.Fields.{fieldNumber}
-use Rattle.sheets.specs.Lines.{lineStart, hasWidth, part}
+use Rattle.sheets.specs.Lines.{lineStart, goesOn, hasWidth, part}
 use Rattle.sheets.specs.Words.{headWord, letterCode}
 
 -- the number that the field at offset s holds, w bytes wide
@@ -72,7 +72,7 @@ sizeChecks sizes i = sizeLineChecks sizes (i + 1) (lineStart sizes i)
 abbrev pub sizesChecks : List ℕ → ℕ → List Check
 sizesChecks sizes m =
     each m (sizeChecks sizes)
-    ++ (tell-if (ltb (lineStart sizes m) (length sizes)) (lineFinding Sizes (m + 1)) ∷ [])
+    ++ (tell-if (goesOn sizes (lineStart sizes m)) (lineFinding Sizes (m + 1)) ∷ [])
 
 -- the letter j of a row
 abbrev pub letterChecks : List ℕ → ℕ → ℕ → ℕ → List Check

@@ -4,8 +4,7 @@ use mathlib.Core.Path.{_≡_}
 use mathlib.Core.List.{List, [], _∷_, _++_}
 use mathlib.Core.Bool.{Bool, cond, not, _&&_}
 use denote.Ref.{RefT, now}
-use lib.Dec.{leb, ltb}
-use lib.ListN.{length}
+use lib.Dec.{ltb}
 use Rattle.plans.specs.declared.change.Change.the-variants.{Rotate, Swap, Reverse, MoveEdge}
 use Rattle.std.specs.Options.{isSome}
 use Rattle.std.specs.Orderings.{When}
@@ -25,7 +24,7 @@ use Rattle.sheets.specs.declared.command.ScriptLine.{ScriptLine}
 use Rattle.sheets.specs.declared.command.Word.{Word}
 use Rattle.sheets.specs.declared.command.Word.the-variants as words
 use Rattle.sheets.specs.Checks.{Check, first, tell-if, lineFinding, fieldFinding, Stands-first, None-applies}
-use Rattle.sheets.specs.Lines.{widthAt, nextLine, hasWidth, part}
+use Rattle.sheets.specs.Lines.{widthAt, nextLine, goesOn, hasWidth, part}
 use Rattle.sheets.specs.Parsing.{Tells}
 use Rattle.sheets.specs.Reading.{badAt, numberAt}
 use Rattle.sheets.specs.Words.{spells}
@@ -61,18 +60,20 @@ commandWith words.Keep a b = commands.Keep
 commandWith words.Undo a b = commands.Undo
 commandWith words.Pack a b = commands.Pack
 
--- the word of the line at s; the checks see to it that there is one, so that which one stands for none says nothing
+-- the word that is found; the checks see to it that there is one, so that which one stands for none says nothing
 abbrev pub wordOr : Option Word → Word
 wordOr (Some w) = w
 wordOr None = words.Keep
 
+-- the word of the line at s
 abbrev pub wordAt : List ℕ → ℕ → Word
 wordAt plan s = wordOr (scriptWord (part plan s 4))
 
--- field j of the line at s, the first being field 0: behind the word, four bytes wide
+-- field j of the line at s, from 0: if the word has so many, it stands behind the word, four bytes wide
 abbrev pub operandChecks : List ℕ → ℕ → ℕ → ℕ → ℕ → List Check
 operandChecks plan n s count j = tell-if (ltb j count && badAt plan (s + (4 + 4 * j)) 4) (fieldFinding BadField Plan n s (4 + 4 * j) 4) ∷ []
 
+-- the number in field j of the line at s, and 0 where the word has no such field
 abbrev pub operandAt : List ℕ → ℕ → ℕ → ℕ → ℕ
 operandAt plan s count j = cond (ltb j count) (numberAt plan (s + (4 + 4 * j)) 4) 0
 
@@ -99,11 +100,15 @@ By-first plan at (Some f) r = Cases r (λ _. ⊥) (λ e. Tells plan f e)
 -- the answer: no line where the sheet has ended, and else the command of the line or its first fault
 abbrev pub Reads-line : RefT (List ℕ) → Place → Result (Option ScriptLine) Fault → Type 0
 Reads-line plan at r =
-    When (leb (length (now plan)) (at .offset)) (r ≡ Ok None) (By-first plan at (first (scriptChecks (now plan) (at .line) (at .offset))) r)
+    When (goesOn (now plan) (at .offset)) (By-first plan at (first (scriptChecks (now plan) (at .line) (at .offset))) r) (r ≡ Ok None)
 
 -- the law of the first: a fault stands at some place of the line's checks, applies, and none before it does; of a line that is read none applies
 abbrev pub First-of-line : RefT (List ℕ) → Place → Result (Option ScriptLine) Fault → Type 0
 First-of-line plan at r =
-    When (leb (length (now plan)) (at .offset)) (Unit {0})
-    (Cases r (λ _. None-applies (scriptChecks (now plan) (at .line) (at .offset)))
+    When
+    (goesOn (now plan) (at .offset))
+    (Cases
+    r
+    (λ _. None-applies (scriptChecks (now plan) (at .line) (at .offset)))
     (λ e. (f : Finding) × Stands-first (scriptChecks (now plan) (at .line) (at .offset)) f × Tells plan f e))
+    (Unit {0})

@@ -3,7 +3,7 @@ ghost use Prim.Native.Nat.{ℕ, _+_, _<_, _≤_};
 ghost use lib.Dec.{T};
 ghost use lib.ListN.{length};
 ghost use mathlib.Core.Path.{_≡_};
-ghost use Rattle.sheets.specs.Lines.{widthAt, hasWidth};
+ghost use Rattle.sheets.specs.Lines.{goesOn, widthAt, hasWidth};
 
 // How many bytes the line at `start` has before its byte 10.
 pub fn line_width(sheet: &[u8], start: usize) -> usize
@@ -30,4 +30,11 @@ pub fn has_width(sheet: &[u8], start: usize, width: usize) -> bool
     }
     let end = start + width;
     end < sheet.len() && sheet[end] == b'\n'
+}
+
+// Whether the sheet has a byte at `start`.
+pub fn goes_on(sheet: &[u8], start: usize) -> bool
+    ensures { λ r. ⌜ r ≡ goesOn (now (sheet .entry)) start ⌝ }
+{
+    start < sheet.len()
 }

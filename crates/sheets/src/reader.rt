@@ -25,15 +25,20 @@ use crate::zeros::clear_all;
 use lengths::Plain;
 use lengths::Sides;
 
+// As many modules as a plan can have, and as many bytes as a sheet can have.
+const MOST_MODULES: usize = 64;
+
+const MOST_BYTES: usize = 32_768;
+
 // The fault of lists that have too little room.
 fn short_list(sides: usize, codes: usize, places: usize) -> Option<Finding>
     ensures exact { λ r. ⌜ r ≡ first (listChecks sides codes places) ⌝ }
     ensures kept { λ r. ⌜ Cases r (⊥ → ⊥) (λ f. clears (f .wrong) ≡ false) ⌝ }
 {
-    if sides < 64 {
+    if sides < MOST_MODULES {
         return Some(Finding::whole(Wrong::ListTooShort, Sheet::Sizes));
     }
-    if codes < 4096 || places < 64 {
+    if codes < MOST_MODULES * MOST_MODULES || places < MOST_MODULES {
         return Some(Finding::whole(Wrong::ListTooShort, Sheet::Plan));
     }
     None
@@ -43,10 +48,10 @@ fn short_list(sides: usize, codes: usize, places: usize) -> Option<Finding>
 fn check_lengths(sizes: &[u8], plan: &[u8]) -> Result<(), Finding>
     ensures { λ r. ⌜ failure r ≡ first (lengthChecks (now (sizes .entry)) (now (plan .entry))) ⌝ }
 {
-    if sizes.len() > 32_768 {
+    if sizes.len() > MOST_BYTES {
         return Err(Finding::whole(Wrong::SheetTooLong, Sheet::Sizes));
     }
-    if plan.len() > 32_768 {
+    if plan.len() > MOST_BYTES {
         return Err(Finding::whole(Wrong::SheetTooLong, Sheet::Plan));
     }
     Ok(())

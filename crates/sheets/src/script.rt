@@ -14,6 +14,7 @@ use crate::fault::Sheet;
 use crate::fault::Wrong;
 use crate::field::number_at;
 use crate::lending::lend;
+use crate::line::goes_on;
 use crate::line::has_width;
 use crate::line::line_width;
 use crate::place::Place;
@@ -89,7 +90,7 @@ pub fn read_command<'a>(plan: &'a [u8], at: Place) -> Result<Option<ScriptLine>,
     ensures answer { λ r. ⌜ Reads-line (plan .entry) at r ⌝ }
     ensures law { λ r. ⌜ First-of-line (plan .entry) at r ⌝ }
 {
-    if at.offset >= plan.len() {
+    if !goes_on(plan, at.offset) {
         return Ok(None);
     }
     match read_line(plan, at) {

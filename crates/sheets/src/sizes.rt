@@ -10,6 +10,7 @@ use crate::fault::Finding;
 use crate::fault::Sheet;
 use crate::fault::Wrong;
 use crate::field::number_at;
+use crate::line::goes_on;
 use crate::line::has_width;
 use lengths::Plain;
 use lengths::Sides;
@@ -60,7 +61,7 @@ pub fn read_sizes(sizes: &[u8], modules: usize, sides: &mut [Sides<Plain>]) -> R
         sides[i] = read_size_line(sizes, i + 1, start)?;
         start += 17;
     }
-    if start < sizes.len() {
+    if goes_on(sizes, start) {
         return Err(Finding::line(Sheet::Sizes, modules + 1));
     }
     Ok(())

@@ -4,13 +4,12 @@ use mathlib.Core.Path.{refl, sym, _∙_, _≡_, ap, subst}
 use mathlib.Core.List.{[], _∷_}
 use native.Mathlib.Omega.{arith}
 use borrow.Author.Needs.{needs}
-use lib.Dec.{ltb}
 use lib.ListN.{length}
 use Rattle.std.specs.declared.option.Option.the-variants.{None, Some}
 use Rattle.std.proofs.shelf.Results.{err-from-errBy}
 use Rattle.sheets.specs.Checks.{each, first, tell-if, lineFinding}
 use Rattle.sheets.specs.declared.fault.Sheet.the-variants as sheets
-use Rattle.sheets.specs.Lines.{lineStart, nextLine}
+use Rattle.sheets.specs.Lines.{goesOn, lineStart, nextLine}
 use Rattle.sheets.specs.Lists.{Filled, sidesOf, sidesRead}
 use Rattle.sheets.specs.Reading.{numberAt, sizeChecks, sizeLineChecks}
 use Rattle.sheets.proofs.CheckLemmas.{first-front}
@@ -37,7 +36,7 @@ returns-in-Break-sides c =
     let e : first (sizeChecks sizes (c .loop-i .i)) ≡ Some (c .in-Break-sides .field-0 .0) =
     ap (λ s. first (sizeLineChecks sizes (c .loop-i .i + 1) s)) (sym (c .loop-i .inv .1)) ∙ c .in-Break-sides .ensures tt .0 in
     rw (p .1, p .2) (
-      first-front (each (c .args .modules) (sizeChecks sizes)) (tell-if (ltb (lineStart sizes (c .args .modules)) (length sizes)) (lineFinding sheets.Sizes (c .args .modules + 1)) ∷ []) _
+      first-front (each (c .args .modules) (sizeChecks sizes)) (tell-if (goesOn sizes (lineStart sizes (c .args .modules))) (lineFinding sheets.Sizes (c .args .modules + 1)) ∷ []) _
           (loop-fault (sizeChecks sizes) (c .loop-i .i) (c .args .modules) _ (c .loop-i .inv .0) (c .loop-i-test .taken) e),
       c .in-Break-sides .ensures tt .1,
     )
@@ -58,13 +57,13 @@ loop-i-again c =
           (c .in-Continue-sides .ensures tt .1 .0 ∙ ap (λ s. sidesOf (numberAt sizes (s + 0) 8) (numberAt sizes (s + 8) 8)) at) (c .loop-i .inv .3),
     )
 
-pub returns-then-start-sizes : need.returns-then-start-sizes
-returns-then-start-sizes c =
+pub returns-then-goes-on : need.returns-then-goes-on
+returns-then-goes-on c =
     let sizes = c .args .sizes .now in
     let e : c .loop-i .i ≡ c .args .modules = omega arith in
     let at : lineStart sizes (c .args .modules) ≡ c .loop-i .start = ap (lineStart sizes) (sym e) ∙ sym (c .loop-i .inv .1) in
     let none = loop-all (sizeChecks sizes) (c .loop-i .i) (c .args .modules) (c .loop-i .inv .0) (c .loop-i-test .left) in
-    rw (c .line .ensures) (surplus-found sizes (c .args .modules) none (omega arith), (refl, omega arith, refl))
+    rw (c .line .ensures) (surplus-found sizes (c .args .modules) none (ap (goesOn sizes) at ∙ sym (c .if-goes-on .ensures tt)), (refl, omega arith, refl))
 
 pub returns : need.returns
 returns c =
@@ -72,6 +71,6 @@ returns c =
     let e : c .loop-i .i ≡ c .args .modules = omega arith in
     let at : lineStart sizes (c .args .modules) ≡ c .loop-i .start = ap (lineStart sizes) (sym e) ∙ sym (c .loop-i .inv .1) in
     let none = loop-all (sizeChecks sizes) (c .loop-i .i) (c .args .modules) (c .loop-i .inv .0) (c .loop-i-test .left) in (
-      surplus-none sizes (c .args .modules) none (omega arith),
+      surplus-none sizes (c .args .modules) none (ap (goesOn sizes) at ∙ sym (c .if-goes-on .ensures tt)),
       subst (λ n. Filled (sidesOf 0 0) (sidesRead sizes) n (c .loop-i .sides)) e (c .loop-i .inv .3),
     )
