@@ -11,3 +11,10 @@ pub mod PublishedFeasible
 pub mod LoadLaw
 pub mod Transposing
 pub mod TransposeLaw
+pub mod Sequences
+pub mod Beside
+pub mod ReverseTables
+pub mod ReverseFeasible
+pub mod MoveFeasible
+pub mod SwapFeasible
+pub mod ChangesFeasible

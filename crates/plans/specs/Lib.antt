@@ -6,10 +6,13 @@ pub mod Tables
 pub mod Published
 pub mod Sequences
 pub mod Orders
+pub mod OneSequence
 pub mod Tests
 pub mod FirstRefusals
 pub mod LoadLaw
 pub mod Changes
+pub mod ChangesFeasible
+pub mod ChangesInWords
 pub mod Transposed
 pub mod TransposeLaw
 pub mod SequencePairs
