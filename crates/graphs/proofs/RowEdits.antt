@@ -115,3 +115,20 @@ rename-all old rows a b n m h =
 -- both below 64
 pub both-below : (a b x y : ℕ) → a < 64 → b < 64 → cond (ltb a 64 && ltb b 64) x y ≡ x
 both-below a b x y h l = rw (lt-ltb a 64 h, lt-ltb b 64 l) refl
+
+-- one row replaced
+pub row-replaced :
+    (rows : List ModuleSet) (i : ℕ) (x : ModuleSet) → i < 64 → length rows ≡ 64 → (k j : ℕ)
+    → rowHas (set rows i x) k j ≡ cond (ltb k 64 && eqb k i) (member x j) (rowHas rows k j)
+row-replaced rows i x h e k j =
+    elim (cases-eq k i) [
+      | inl same ↦ rw (same, lt-ltb i 64 h, eq-eqb i i refl) (row-written rows i x j h e)
+      | inr other ↦
+          let t : (ltb k 64 && eqb k i) ≡ false = grind (arith, tells) in
+          row-kept rows i x k j other ∙ rw t refl
+    ]
+
+pub row-beyond :
+    (rows : List ModuleSet) (i : ℕ) (x : ModuleSet) → 64 ≤ i → (k j : ℕ)
+    → rowHas rows k j ≡ cond (ltb k 64 && eqb k i) (member x j) (rowHas rows k j)
+row-beyond rows i x h k j = let t : (ltb k 64 && eqb k i) ≡ false = grind (arith, tells) in rw t refl

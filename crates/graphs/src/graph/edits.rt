@@ -1,6 +1,7 @@
 // Changing the edges of a graph, row by row.
-ghost use mathlib.Core.Bool.{not, _&&_, _||_};
+ghost use mathlib.Core.Bool.{cond, not, _&&_, _||_};
 ghost use mathlib.Core.Path.{_≡_};
+ghost use lib.Dec.{eqb, ltb};
 ghost use Prim.Native.Nat.{ℕ};
 ghost use Rattle.graphs.specs.Edges.{edge, swapped};
 ghost use Rattle.module_set.specs.Members.{member};
@@ -8,6 +9,15 @@ use super::Graph;
 use module_set::ModuleSet;
 
 impl Graph {
+    // Gives i other successors, and changes nothing where i is over 63.
+    pub fn set_successors(&mut self, i: usize, to: ModuleSet)
+        ensures { λ _. ⌜ ((k j : ℕ) → edge (now (self .exit)) k j ≡ cond (ltb k 64 && eqb k i) (member to j) (edge (now (self .entry)) k j)) ⌝ }
+    {
+        if i < 64 {
+            self.rows[i] = to;
+        }
+    }
+
     // Adds every edge from one of the first set to one of the second.
     pub fn connect(&mut self, from: ModuleSet, to: ModuleSet)
         ensures { λ _. ⌜ ((i j : ℕ) → edge (now (self .exit)) i j ≡ (edge (now (self .entry)) i j || (member from i && member to j))) ⌝ }
