@@ -1,0 +1,1 @@
+-- Filling the result list along the sequence: one module more, and all.

@@ -1,0 +1,1 @@
+-- What the calls answer and leave, from what their parts do.
