@@ -6,10 +6,10 @@ use Rattle.std.specs.declared.option.Option.the-variants.{None}
 use Rattle.std.specs.declared.result.Result.{Result}
 use Rattle.std.specs.declared.result.Result.the-variants.{Ok, Err}
 use Rattle.plans.specs.Kinds.{Kind}
-use Rattle.plans.specs.Packing.{Task, Pins, noPins, onePin}
+use Rattle.plans.specs.Packing.{Task, noPins}
 use Rattle.plans.specs.PackingAnswers.{ShowsPlacement, ShowsLeast}
 use Rattle.plans.specs.PackingCalls.{Outcome, pinRefusal, after-pack, after-pack-pinned, after-pack-rotated}
-use Rattle.plans.specs.PackingTheorems.{packedPlacement, rotatedTask}
+use Rattle.plans.specs.PackingTheorems.{packedPlacement}
 use Rattle.plans.specs.Placements.{NoPlacement, ByLongestPaths}
 use Rattle.plans.specs.declared.measures.Placed.{Placed}
 use Rattle.plans.specs.declared.measures.Chip.{Chip}
@@ -17,6 +17,7 @@ use Rattle.plans.specs.declared.pack_refusals.PackRefusal.{PackRefusal}
 use Rattle.plans.specs.declared.pack_refusals.PinnedRefusal.{PinnedRefusal}
 use Rattle.plans.specs.declared.pack_refusals.PinnedRefusal.the-variants.{NoPlace}
 use Rattle.plans.specs.declared.pack_refusals.RotationRefusal.{RotationRefusal}
+use Rattle.packing.specs.Tasks.{pinOf}
 use Rattle.packing.specs.declared.pin.Pin.{Pin}
 
 -- an answer and a list are those of an outcome
@@ -42,21 +43,17 @@ module _ {L : Type 0} (K : Kind L) (t : Task L) (before : List (Placed L)) where
       (chip : Chip L) → answer ≡ Ok chip
       → ShowsLeast K t noPins before after chip × ByLongestPaths K t (packedPlacement K t noPins)
 
-  -- the fixed near edges of a pin
-  abbrev pub pinned : Pin L → Pins L
-  pinned p = onePin (p .«module») (p .across) (p .up)
-
   -- what an answer with a module pinned tells
   pub record ShowsPinned (p : Pin L) (answer : Result (Chip L) PinnedRefusal) (after : List (Placed L)) : Type 0 where
     -- an answered chip and the list show the least placement that has the pin
-    pub answered : (chip : Chip L) → answer ≡ Ok chip → ShowsLeast K t (pinned p) before after chip
+    pub answered : (chip : Chip L) → answer ≡ Ok chip → ShowsLeast K t (pinOf p) before after chip
     -- "no place" is answered only where no other refusal applies and no placement has the pin
     pub nowhere :
         answer ≡ Err NoPlace
-        → (pinRefusal K t before (p .«module») (p .across) (p .up) ≡ None) × NoPlacement K t (pinned p)
+        → (pinRefusal K t before (p .«module») (p .across) (p .up) ≡ None) × NoPlacement K t (pinOf p)
     -- and wherever that is so
     pub always :
-        pinRefusal K t before (p .«module») (p .across) (p .up) ≡ None → NoPlacement K t (pinned p)
+        pinRefusal K t before (p .«module») (p .across) (p .up) ≡ None → NoPlacement K t (pinOf p)
         → answer ≡ Err NoPlace
     -- and then the list shows the packing without the pin
     pub unpinned : answer ≡ Err NoPlace → ShowsPlacement K t (packedPlacement K t noPins) before after

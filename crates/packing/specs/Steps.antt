@@ -1,6 +1,6 @@
 -- How the packer goes along the packing sequence: free corners, near corners, and how far the list is filled.
 use Prim.Native.Nat.{ℕ, _*_, _≤_, _<_}
-use mathlib.Core.Bool.{Bool, true, cond, _||_}
+use mathlib.Core.Bool.{Bool, true, cond, _&&_, _||_}
 use mathlib.Core.List.{List}
 use mathlib.Core.Logic.{_≢_}
 use mathlib.Core.Path.{_≡_}
@@ -47,6 +47,10 @@ module _ {L : Type 0} (K : Kind L) where
   abbrev pub nearCorner : Pins L → ℕ → Corner L → Corner L
   nearCorner pins i free =
       record { across = valueOr (pins 1 i) (free .across); up = valueOr (pins 2 i) (free .up) }
+
+  -- a corner is at most another, along both axes
+  abbrev pub cornerAtMost : Corner L → Corner L → Bool
+  cornerAtMost a b = K .atMost (a .across) (b .across) && K .atMost (a .up) (b .up)
 
   -- the chip of the first m records of a list
   abbrev pub chipIn : ℕ → List (Placed L) → Chip L

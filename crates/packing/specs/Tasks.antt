@@ -20,10 +20,14 @@ taskOf plan set sides = record { plan = plan; rotated = member set; sides = side
 abbrev pub plainTask : {L : Type 0} → Floorplan → List (Sides L) → Task L
 plainTask plan sides = record { plan = plan; rotated = λ _. false; sides = sides }
 
--- the fixed near edges of a pin, if there is one
+-- the fixed near edges of a pin
+abbrev pub pinOf : {L : Type 0} → Pin L → Pins L
+pinOf p = onePin (p .«module») (p .across) (p .up)
+
+-- those of a pin, if there is one
 abbrev pub pinsOf : {L : Type 0} → Option (Pin L) → Pins L
 pinsOf None = noPins
-pinsOf (Some p) = onePin (p .«module») (p .across) (p .up)
+pinsOf (Some p) = pinOf p
 
 -- a refusal as an error
 abbrev pub orRefusal : {E : Type 0} → Option E → Result (Unit {0}) E

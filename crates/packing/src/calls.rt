@@ -18,7 +18,12 @@ use plans::Sides;
 use representations::Representation;
 
 // Packs the modules, some of them rotated, and writes a record of each into the list; answers the chip.
-pub fn pack<R: Representation, L: Length>(representation: &R, rotated: ModuleSet, sides: &[Sides<L>], results: &mut [Placed<L>]) -> Result<Chip<L>, PackRefusal>
+pub fn pack<R: Representation, L: Length>(
+    representation: &R,
+    rotated: ModuleSet,
+    sides: &[Sides<L>],
+    results: &mut [Placed<L>],
+) -> Result<Chip<L>, PackRefusal>
     ensures outcome { λ r. ⌜ Packs (L·Length .kind) (taskOf (R·Representation .means (now (representation .entry))) rotated (now (sides .entry))) (now (results .entry)) r (now (results .exit)) ⌝ }
     ensures least { λ r. ⌜ ShowsPacking (L·Length .kind) (taskOf (R·Representation .means (now (representation .entry))) rotated (now (sides .entry))) (now (results .entry)) r (now (results .exit)) ⌝ }
 {
@@ -29,7 +34,13 @@ pub fn pack<R: Representation, L: Length>(representation: &R, rotated: ModuleSet
 
 // Packs with one module pinned at a point. Where no placement has it there, the list holds the packing
 // without the pin.
-pub fn pack_pinned<R: Representation, L: Length>(representation: &R, rotated: ModuleSet, sides: &[Sides<L>], results: &mut [Placed<L>], pin: Pin<L>) -> Result<Chip<L>, PinnedRefusal>
+pub fn pack_pinned<R: Representation, L: Length>(
+    representation: &R,
+    rotated: ModuleSet,
+    sides: &[Sides<L>],
+    results: &mut [Placed<L>],
+    pin: Pin<L>,
+) -> Result<Chip<L>, PinnedRefusal>
     ensures outcome { λ r. ⌜ PacksPinned (L·Length .kind) (taskOf (R·Representation .means (now (representation .entry))) rotated (now (sides .entry))) (now (results .entry)) pin r (now (results .exit)) ⌝ }
     ensures least { λ r. ⌜ ShowsPinned (L·Length .kind) (taskOf (R·Representation .means (now (representation .entry))) rotated (now (sides .entry))) (now (results .entry)) pin r (now (results .exit)) ⌝ }
 {
@@ -50,7 +61,13 @@ pub fn pack_pinned<R: Representation, L: Length>(representation: &R, rotated: Mo
 }
 
 // Packs as if one module were rotated once more.
-pub fn pack_with_rotation<R: Representation, L: Length>(representation: &R, rotated: ModuleSet, sides: &[Sides<L>], results: &mut [Placed<L>], module: usize) -> Result<Chip<L>, RotationRefusal>
+pub fn pack_with_rotation<R: Representation, L: Length>(
+    representation: &R,
+    rotated: ModuleSet,
+    sides: &[Sides<L>],
+    results: &mut [Placed<L>],
+    module: usize,
+) -> Result<Chip<L>, RotationRefusal>
     ensures outcome { λ r. ⌜ PacksRotated (L·Length .kind) (taskOf (R·Representation .means (now (representation .entry))) rotated (now (sides .entry))) (now (results .entry)) «module» r (now (results .exit)) ⌝ }
     ensures least { λ r. ⌜ ShowsPacking (L·Length .kind) (rotatedTask (taskOf (R·Representation .means (now (representation .entry))) rotated (now (sides .entry))) «module») (now (results .entry)) r (now (results .exit)) ⌝ }
 {

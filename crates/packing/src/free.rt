@@ -26,7 +26,12 @@ fn moved_past<L: Length>(corner: Corner<L>, code: u8, placed: Placed<L>) -> Corn
 }
 
 // The free corner of module i, after those at the places before this one, which have their records.
-pub fn free_corner<R: Representation, L: Length>(representation: &R, place: usize, i: usize, results: &[Placed<L>]) -> Corner<L>
+pub fn free_corner<R: Representation, L: Length>(
+    representation: &R,
+    place: usize,
+    i: usize,
+    results: &[Placed<L>],
+) -> Corner<L>
     requires within { ⌜ place ≤ R·Representation .means (now representation) .size ⌝ }
     requires room { ⌜ R·Representation .means (now representation) .size ≤ length (now results) ⌝ }
     ensures { λ r. ⌜ r ≡ freeCorner (L·Length .kind) (R·Representation .means (now (representation .entry))) (now (results .entry)) place i ⌝ }

@@ -5,7 +5,7 @@ ghost use Prim.Native.Nat.{_<_};
 ghost use lib.ListN.{length, set};
 ghost use Rattle.plans.specs.Packing.{sideAlong, packedModule, packedList};
 ghost use Rattle.plans.specs.PackingCalls.{noPlace};
-ghost use Rattle.packing.specs.Steps.{Ready, FilledTo, atPlace, nearCorner, pushedAt};
+ghost use Rattle.packing.specs.Steps.{Ready, FilledTo, atPlace, nearCorner, cornerAtMost, pushedAt};
 ghost use Rattle.packing.specs.Tasks.{taskOf, pinsOf};
 use crate::free::free_corner;
 use crate::pin::Corner;
@@ -30,7 +30,7 @@ fn near_corner<L: Length>(pin: Option<Pin<L>>, i: usize, free: Corner<L>) -> Cor
 }
 
 // The sides across and upwards, exchanged where the module is rotated.
-fn turned<L: Length>(sides: Sides<L>, is_rotated: bool) -> Sides<L>
+fn rotated_sides<L: Length>(sides: Sides<L>, is_rotated: bool) -> Sides<L>
     ensures { λ r. ⌜ r ≡ record { width = sideAlong 1 «is_rotated» sides; height = sideAlong 2 «is_rotated» sides } ⌝ }
 {
     if is_rotated {
@@ -43,9 +43,31 @@ fn turned<L: Length>(sides: Sides<L>, is_rotated: bool) -> Sides<L>
     }
 }
 
+// Whether a corner is at most another, along both axes.
+fn is_at_most<L: Length>(corner: Corner<L>, other: Corner<L>) -> bool
+    ensures { λ r. ⌜ r ≡ cornerAtMost (L·Length .kind) corner other ⌝ }
+{
+    corner.across.at_most(other.across) && corner.up.at_most(other.up)
+}
+
+// Writes the record of module i whole, in its place.
+fn write_record<L: Length>(results: &mut [Placed<L>], i: usize, placed: Placed<L>)
+    requires { ⌜ i < length (now results) ⌝ }
+    ensures { λ _. ⌜ now (results .exit) ≡ set (now (results .entry)) i placed ⌝ }
+{
+    results[i] = placed;
+}
+
 // Writes the record of the module at a place of the sequence, where those before it have theirs. Whether no
 // module runs past where this one is pinned.
-fn place_module<R: Representation, L: Length>(representation: &R, rotated: ModuleSet, sides: &[Sides<L>], pin: Option<Pin<L>>, place: usize, results: &mut [Placed<L>]) -> bool
+fn place_module<R: Representation, L: Length>(
+    representation: &R,
+    rotated: ModuleSet,
+    sides: &[Sides<L>],
+    pin: Option<Pin<L>>,
+    place: usize,
+    results: &mut [Placed<L>],
+) -> bool
     requires ready { ⌜ Ready (L·Length .kind) (taskOf (R·Representation .means (now representation)) rotated (now sides)) (pinsOf pin) (length (now results)) ⌝ }
     requires within { ⌜ place < R·Representation .means (now representation) .size ⌝ }
     requires filled { ⌜ FilledTo (L·Length .kind) (taskOf (R·Representation .means (now representation)) rotated (now sides)) (pinsOf pin) place (now results) ⌝ }
@@ -57,18 +79,25 @@ fn place_module<R: Representation, L: Length>(representation: &R, rotated: Modul
     };
     let free = free_corner(representation, place, i, results);
     let near = near_corner(pin, i, free);
-    let side = turned(sides[i], rotated.contains(i));
-    results[i] = Placed {
+    let side = rotated_sides(sides[i], rotated.contains(i));
+    let placed = Placed {
         left: near.across,
         bottom: near.up,
         right: near.across.plus(side.width),
         top: near.up.plus(side.height),
     };
-    free.across.at_most(near.across) && free.up.at_most(near.up)
+    write_record(results, i, placed);
+    is_at_most(free, near)
 }
 
 // Writes the record of every module. Whether no module is pushed past its pin.
-pub fn place_all<R: Representation, L: Length>(representation: &R, rotated: ModuleSet, sides: &[Sides<L>], pin: Option<Pin<L>>, results: &mut [Placed<L>]) -> bool
+pub fn place_all<R: Representation, L: Length>(
+    representation: &R,
+    rotated: ModuleSet,
+    sides: &[Sides<L>],
+    pin: Option<Pin<L>>,
+    results: &mut [Placed<L>],
+) -> bool
     requires { ⌜ Ready (L·Length .kind) (taskOf (R·Representation .means (now representation)) rotated (now sides)) (pinsOf pin) (length (now results)) ⌝ }
     ensures list { λ r. ⌜ now (results .exit) ≡ packedList (L·Length .kind) (taskOf (R·Representation .means (now (representation .entry))) rotated (now (sides .entry))) (pinsOf pin) (now (results .entry)) ⌝ }
     ensures fits { λ r. ⌜ r ≡ not (noPlace (L·Length .kind) (taskOf (R·Representation .means (now (representation .entry))) rotated (now (sides .entry))) (pinsOf pin)) ⌝ }

@@ -15,6 +15,7 @@ use plans::Sides;
 use representations::Representation;
 
 const LONGEST_SIDE: u32 = 100_000;
+
 const FARTHEST_PIN: u32 = 3_600_000;
 
 // Whether a length may be a side.
@@ -38,7 +39,11 @@ fn first_wrong<L: Length>(sides: &[Sides<L>]) -> Option<usize>
 }
 
 // The first refusal of any packing.
-pub fn check_sides<R: Representation, L: Length>(representation: &R, sides: &[Sides<L>], results: &[Placed<L>]) -> Result<(), PackRefusal>
+pub fn check_sides<R: Representation, L: Length>(
+    representation: &R,
+    sides: &[Sides<L>],
+    results: &[Placed<L>],
+) -> Result<(), PackRefusal>
     ensures { λ r. ⌜ r ≡ orRefusal (packRefusal (L·Length .kind) (plainTask (R·Representation .means (now (representation .entry))) (now (sides .entry))) (now (results .entry))) ⌝ }
 {
     let modules = representation.modules();
