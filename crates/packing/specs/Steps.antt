@@ -1,16 +1,17 @@
 -- How the packer goes along the packing sequence: free corners, near corners, and how far the list is filled.
 use Prim.Native.Nat.{ℕ, _*_, _≤_, _<_}
-use mathlib.Core.Bool.{Bool, true, cond, _&&_, _||_}
+use mathlib.Core.Bool.{Bool, true, cond, not, _&&_, _||_}
 use mathlib.Core.List.{List}
 use mathlib.Core.Logic.{_≢_}
 use mathlib.Core.Path.{_≡_}
 use lib.Dec.{eqb}
-use lib.ListN.{length, getD, take}
+use lib.ListN.{length, getD, set, take}
 use Rattle.std.specs.Options.{valueOr}
 use Rattle.plans.specs.Axes.{latest, pushed}
 use Rattle.plans.specs.Kinds.{Kind}
 use Rattle.plans.specs.LaterOfTwo.{latestOnto}
-use Rattle.plans.specs.Packing.{Task, Pins, axisOf, packedModule}
+use Rattle.plans.specs.Packing.{Task, Pins, axisOf, packedModule, packedList}
+use Rattle.plans.specs.PackingCalls.{noPlace}
 use Rattle.plans.specs.PackingTheorems.{Packable, NearPins}
 use Rattle.plans.specs.Tables.{Floorplan, tableIn}
 use Rattle.plans.specs.declared.measures.Placed.{Placed}
@@ -81,3 +82,19 @@ module _ {L : Type 0} (K : Kind L) where
     -- a module is pushed past its pin, along one axis or the other
     abbrev pub pushedAt : ℕ → Bool
     pushedAt i = pushed K (axisOf K t pins 1) i || pushed K (axisOf K t pins 2) i
+
+    -- place k is the next to be filled
+    pub record NextPlace (k : ℕ) (results : List (Placed L)) : Type 0 where
+      pub ready : Ready (length results)
+      pub within : k < t .plan .size
+      pub filled : FilledTo k results
+
+    -- the record of the module at place k is written, and whether it is not pushed past its pin is answered
+    pub record PlacesOne (k : ℕ) (before after : List (Placed L)) (answer : Bool) : Type 0 where
+      pub list : after ≡ set before (atPlace (t .plan) k) (packedModule K t pins (atPlace (t .plan) k))
+      pub fits : answer ≡ not (pushedAt (atPlace (t .plan) k))
+
+    -- the record of every module is written, and whether there is a place is answered
+    pub record PlacesAll (before after : List (Placed L)) (answer : Bool) : Type 0 where
+      pub list : after ≡ packedList K t pins before
+      pub fits : answer ≡ not (noPlace K t pins)

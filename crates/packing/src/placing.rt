@@ -1,11 +1,9 @@
 // Placing modules one after another, along the packing sequence.
-ghost use mathlib.Core.Bool.{not};
 ghost use mathlib.Core.Path.{_≡_};
 ghost use Prim.Native.Nat.{_<_};
 ghost use lib.ListN.{length, set};
-ghost use Rattle.plans.specs.Packing.{sideAlong, packedModule, packedList};
-ghost use Rattle.plans.specs.PackingCalls.{noPlace};
-ghost use Rattle.packing.specs.Steps.{Ready, FilledTo, atPlace, nearCorner, cornerAtMost, pushedAt};
+ghost use Rattle.plans.specs.Packing.{sideAlong};
+ghost use Rattle.packing.specs.Steps.{Ready, NextPlace, PlacesOne, PlacesAll, nearCorner, cornerAtMost};
 ghost use Rattle.packing.specs.Tasks.{taskOf, pinsOf};
 use crate::free::free_corner;
 use crate::pin::Corner;
@@ -68,11 +66,8 @@ fn place_module<R: Representation, L: Length>(
     place: usize,
     results: &mut [Placed<L>],
 ) -> bool
-    requires ready { ⌜ Ready (L·Length .kind) (taskOf (R·Representation .means (now representation)) rotated (now sides)) (pinsOf pin) (length (now results)) ⌝ }
-    requires within { ⌜ place < R·Representation .means (now representation) .size ⌝ }
-    requires filled { ⌜ FilledTo (L·Length .kind) (taskOf (R·Representation .means (now representation)) rotated (now sides)) (pinsOf pin) place (now results) ⌝ }
-    ensures list { λ r. ⌜ now (results .exit) ≡ set (now (results .entry)) (atPlace (R·Representation .means (now (representation .entry))) place) (packedModule (L·Length .kind) (taskOf (R·Representation .means (now (representation .entry))) rotated (now (sides .entry))) (pinsOf pin) (atPlace (R·Representation .means (now (representation .entry))) place)) ⌝ }
-    ensures fits { λ r. ⌜ r ≡ not (pushedAt (L·Length .kind) (taskOf (R·Representation .means (now (representation .entry))) rotated (now (sides .entry))) (pinsOf pin) (atPlace (R·Representation .means (now (representation .entry))) place)) ⌝ }
+    requires { ⌜ NextPlace (L·Length .kind) (taskOf (R·Representation .means (now representation)) rotated (now sides)) (pinsOf pin) place (now results) ⌝ }
+    ensures { λ r. ⌜ PlacesOne (L·Length .kind) (taskOf (R·Representation .means (now (representation .entry))) rotated (now (sides .entry))) (pinsOf pin) place (now (results .entry)) (now (results .exit)) r ⌝ }
 {
     let Some(i) = representation.module_at(place) else {
         unreachable()
@@ -99,8 +94,7 @@ pub fn place_all<R: Representation, L: Length>(
     results: &mut [Placed<L>],
 ) -> bool
     requires { ⌜ Ready (L·Length .kind) (taskOf (R·Representation .means (now representation)) rotated (now sides)) (pinsOf pin) (length (now results)) ⌝ }
-    ensures list { λ r. ⌜ now (results .exit) ≡ packedList (L·Length .kind) (taskOf (R·Representation .means (now (representation .entry))) rotated (now (sides .entry))) (pinsOf pin) (now (results .entry)) ⌝ }
-    ensures fits { λ r. ⌜ r ≡ not (noPlace (L·Length .kind) (taskOf (R·Representation .means (now (representation .entry))) rotated (now (sides .entry))) (pinsOf pin)) ⌝ }
+    ensures { λ r. ⌜ PlacesAll (L·Length .kind) (taskOf (R·Representation .means (now (representation .entry))) rotated (now (sides .entry))) (pinsOf pin) (now (results .entry)) (now (results .exit)) r ⌝ }
 {
     let mut fits = true;
     for place in 0..representation.modules() {
