@@ -1,19 +1,15 @@
 -- The two sequences of a feasible table by counting, and the floorplan that they make.
-use Prim.Native.Nat.{ℕ, _+_, _*_, _≤_, _<_}
+use Prim.Native.Nat.{ℕ, _+_, _≤_, _<_}
 use native.Mathlib.Omega.{arith}
 use native.Mathlib.Numerals.{add-one}
-use mathlib.Core.Path.{_≡_, refl, sym, _∙_, ap, ap₂, subst}
-use mathlib.Core.Bool.{Bool, true, false, cond}
+use mathlib.Core.Path.{_≡_, refl, sym, _∙_, ap, ap₂}
+use mathlib.Core.Bool.{Bool, cond}
 use mathlib.Core.List.{List}
 use lib.ListN.{length, getD, take}
-use Rattle.std.specs.declared.option.Option.{Option}
-use Rattle.std.specs.declared.option.Option.the-variants.{None}
-use Rattle.std.specs.declared.result.Result.the-variants.{Ok}
 use Rattle.std.proofs.shelf.Lists.{same-lists, length-take-le, getD-take, getD-default}
 use Rattle.plans.proofs.Orders.{ordered-by-count}
 use Rattle.plans.proofs.PairLaw.{pair-law, other-order}
 use Rattle.plans.proofs.Sequences.{sequence-determined}
-use Rattle.plans.specs.Changes.{Follows, unless}
 use Rattle.plans.specs.Orders.{TotalOrder}
 use Rattle.plans.specs.Search.{countBelow}
 use Rattle.plans.specs.SequencePairs.{fromPair, otherSequence}
@@ -83,8 +79,3 @@ counted-plan m codes second first shape law p q =
     ap₂ fromPair p q
     ∙ pair-law .determined (fittingPlan m codes)
     (record { full = shape .1; table = law; fits = sequence-determined m (tableOf m codes) law .fits })
-
--- an accepted call
-pub follows-done :
-    {E : Type 0} (r : Option E) (q old new : Floorplan) → r ≡ None → new ≡ q → Follows (unless r q) (Ok tt) old new
-follows-done r q old new e same = subst (λ t. Follows (unless t q) (Ok tt) old new) (sym e) (refl, same)

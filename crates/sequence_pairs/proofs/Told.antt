@@ -1,22 +1,20 @@
 -- What a sequence pair means is feasible, and its codes are told by the places that it keeps.
 use Prim.Native.Nat.{ℕ, _≤_, _<_}
 use native.Mathlib.Omega.{arith}
-use mathlib.Core.Path.{_≡_, refl, sym, _∙_, ap, ap₂}
-use mathlib.Core.Bool.{Bool, true, false, cond, _&&_}
+use mathlib.Core.Path.{_≡_, refl, sym, _∙_}
+use mathlib.Core.Bool.{Bool, cond, _&&_}
 use mathlib.Core.List.{List}
-use mathlib.Core.Logic.{_⊎_, inl, inr}
+use mathlib.Core.Logic.{inl, inr}
 use lib.Dec.{ltb}
 use lib.ListN.{length, getD, take}
 use Rattle.std.specs.declared.option.Option.the-variants.{Some}
 use Rattle.std.proofs.shelf.Lists.{length-take-le, getD-take}
-use Rattle.std.proofs.shelf.Tests.{cases-lt, lt-ltb, le-ltb, and-right}
+use Rattle.std.proofs.shelf.Tests.{cases-lt, lt-ltb, le-ltb}
 use Rattle.plans.proofs.PairLaw.{pair-law}
 use Rattle.plans.proofs.TableLists.{table-within}
 use Rattle.plans.specs.PairLaw.{Pair}
-use Rattle.plans.specs.Search.{placeOf}
-use Rattle.plans.specs.Tables.{Floorplan, Feasible, tableIn, tableOf, moduleAt}
+use Rattle.plans.specs.Tables.{Feasible, tableIn, moduleAt}
 use Rattle.sequence_pairs.proofs.Kept.{kept-names, kept-place}
-use Rattle.sequence_pairs.specs.Keeping.{AtPlaces}
 use Rattle.sequence_pairs.specs.Meaning.{meant}
 use Rattle.sequence_pairs.specs.declared.pair.SequencePair.{SequencePair}
 

@@ -1,8 +1,8 @@
 -- How a sequence and the places of its modules are kept.
-use Prim.Native.Nat.{ℕ, _≤_, _<_}
+use Prim.Native.Nat.{ℕ, _<_}
 use mathlib.Core.Path.{_≡_}
 use mathlib.Core.List.{List}
-use lib.ListN.{length, getD, take}
+use lib.ListN.{getD, take}
 use Rattle.plans.specs.SequencePairs.{fromPair}
 use Rattle.plans.specs.Tables.{Floorplan}
 

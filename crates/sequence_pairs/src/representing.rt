@@ -2,11 +2,11 @@
 ghost use Rattle.sequence_pairs.specs.Meaning.{meant};
 use crate::counting::from_table;
 use crate::pair::SequencePair;
+use load_tests::load_refusal;
 use plans::Change;
 use plans::ChangeRefusal;
 use plans::LoadRefusal;
 use representations::Representation;
-use table_tests::load_refusal;
 
 pub impl Representation for SequencePair as SequencePairRepresentation {
     ghost means = { meant };

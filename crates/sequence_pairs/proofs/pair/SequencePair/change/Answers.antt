@@ -2,8 +2,7 @@
 use native.Mathlib.Omega.{arith}
 use mathlib.Core.Path.{sym, _∙_}
 use Rattle.plans.specs.Changes.{changeRefusal, changed}
-use Rattle.sequence_pairs.proofs.Changed.{square-few, accepted-part, part-long}
-use Rattle.sequence_pairs.proofs.Counted.{follows-done}
+use Rattle.sequence_pairs.proofs.Changed.{square-few, accepted-part, part-long, follows-done}
 use Rattle.sequence_pairs.specs.Meaning.{meant}
 use Rattle.sequence_pairs.proofs.pair.SequencePair.change.Needs as need
 

@@ -3,7 +3,8 @@ use mathlib.Core.Path.{sym, _∙_}
 use Rattle.plans.proofs.LoadLaw.{load-feasible}
 use Rattle.plans.specs.LoadLaw.{given}
 use Rattle.plans.specs.Tests.{loadRefusal}
-use Rattle.sequence_pairs.proofs.Counted.{refit, follows-done}
+use Rattle.sequence_pairs.proofs.Changed.{follows-done}
+use Rattle.sequence_pairs.proofs.Counted.{refit}
 use Rattle.sequence_pairs.specs.Meaning.{meant}
 use Rattle.sequence_pairs.proofs.representing.SequencePairRepresentation.load.Needs as need
 
