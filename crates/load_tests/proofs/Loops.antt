@@ -1,13 +1,15 @@
 -- What a loop that looks for the first or for some has found when it returns.
-use Prim.Native.Nat.{ℕ, _*_, _/_, _%_, _<_}
-use mathlib.Core.Path.{_≡_, sym, _∙_, ap}
+use Prim.Native.Nat.{ℕ, zero, suc, _*_, _/_, _%_, _<_}
+use native.Mathlib.Omega.{arith}
+use mathlib.Core.Path.{_≡_, sym, ap}
 use mathlib.Core.Bool.{Bool, true, false}
-use mathlib.Core.List.{List}
+use mathlib.Core.List.{List, [], _∷_}
 use mathlib.Core.Logic.{_≢_}
 use lib.ListN.{length, getD}
 use Rattle.std.specs.Options.{mapped}
 use Rattle.std.specs.declared.option.Option.the-variants.{Some, None}
-use Rattle.plans.proofs.Places.{place-first, place-none}
+use Rattle.std.proofs.shelf.Ways.{tells}
+use Rattle.plans.proofs.Places.{place-none}
 use Rattle.plans.proofs.Searches.{first-is}
 use Rattle.plans.specs.Search.{firstBelow, firstPair, placeOf}
 
@@ -31,10 +33,15 @@ pub found-no-pair :
     (p : ℕ → ℕ → Bool) (m : ℕ) → ((l : ℕ) → l < m * m → p (l / m) (l % m) ≡ false) → None ≡ firstPair m p
 found-no-pair p m none = ap (mapped (λ n. (n / m, n % m))) (found-none (λ n. p (n / m) (n % m)) (m * m) none)
 
--- the first place of an entry
+-- the first place of an entry: it stands there, and nowhere before
 pub found-place :
     (s : List ℕ) (x k : ℕ) → k < length s → getD s k 0 ≡ x → ((l : ℕ) → l < k → getD s l 0 ≢ x) → k ≡ placeOf s x
-found-place s x k h e none = sym (rw e at (place-first s k h (λ l g f. none l g (f ∙ e))))
+found-place [] x k h e none = absurd (omega arith)
+found-place (y ∷ ys) x zero h e none = grind (arith, tells)
+found-place (y ∷ ys) x (suc k) h e none =
+    let new = none 0 (omega arith) in
+    let ih = found-place ys x k (omega arith) e (λ l g. none (suc l) (omega arith)) in
+    grind (arith, tells)
 
 pub found-no-place : (s : List ℕ) (x : ℕ) → ((l : ℕ) → l < length s → getD s l 0 ≢ x) → length s ≡ placeOf s x
 found-no-place s x none = sym (place-none s x none)

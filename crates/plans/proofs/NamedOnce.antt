@@ -8,25 +8,23 @@ use mathlib.Core.Logic.{inl, inr}
 use lib.Dec.{ltb}
 use lib.ListN.{getD}
 use Rattle.std.proofs.shelf.Tests.{true≢false, cases-bool, cases-order, lt-ltb, le-ltb}
-use Rattle.plans.proofs.Pigeonhole.{all-found}
-use Rattle.plans.proofs.Places.{place-first}
+use Rattle.plans.proofs.Pigeonhole.{Different}
+use Rattle.plans.proofs.Places as places
+use Rattle.plans.proofs.Places.{place-of-module}
 use Rattle.plans.specs.Orders.{TotalOrder, RunsAlong}
 use Rattle.plans.specs.PairLaw.{NamesEach}
 use Rattle.plans.specs.Search.{placeOf}
 
 module _ (m : ℕ) (s : List ℕ) (n : NamesEach m s) where
-  -- the number at a place has that place
-  pub place-at : (k : ℕ) → k < m → placeOf s (getD s k 0) ≡ k
-  place-at k h =
-      place-first s k (omega (arith, n .long))
-      (λ l g e. let same = n .once l k (omega arith) h e in omega arith)
+  -- each number has a place, and stands there; the number at a place has that place
+  different : Different m (λ k. getD s k 0)
+  different = record { below = n .modules; once = n .once }
 
-  -- each number has a place, and stands there
   pub place-of : (i : ℕ) → i < m → (placeOf s i < m) × (getD s (placeOf s i) 0 ≡ i)
-  place-of i h =
-      let (k, l, e) = all-found m (λ k. getD s k 0) (record { below = n .modules; once = n .once }) i h in
-      let p : placeOf s i ≡ k = rw e at (place-at k l) in
-      (omega arith, ap (λ x. getD s x 0) p ∙ e)
+  place-of = place-of-module m s (n .long) different
+
+  pub place-at : (k : ℕ) → k < m → placeOf s (getD s k 0) ≡ k
+  place-at = places.place-at m s (n .long) different
 
   -- and no two have one place
   pub place-once : (i j : ℕ) → i < m → j < m → placeOf s i ≡ placeOf s j → i ≡ j
