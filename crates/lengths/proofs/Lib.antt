@@ -1,0 +1,3 @@
+-- What the kinds of length are proved by.
+pub mod CopiedLaws
+pub mod Offered
