@@ -16,7 +16,6 @@ use Rattle.plans.proofs.Searches.{count-same}
 use Rattle.plans.specs.Search.{countBelow}
 use Rattle.module_set.specs.Members.{bitSet}
 
-
 -- a number modulo 2 is 0 or 1
 two-ways : (x : ℕ) → (x % 2 ≡ 0) ⊎ (x % 2 ≡ 1)
 two-ways x =
