@@ -95,11 +95,7 @@ least-none s = settle (firstBelow 64 (member s)) (first-tells (member s) 64)
     settle None f = rw (none-from 64 (member s) f) refl
 
 -- tests with the same answers below a bound find some or none together
-<<<<<<< HEAD
 pub some-same : (n : ℕ) (p q : ℕ → Bool) → ((k : ℕ) → p k ≡ q k) → someBelow n p ≡ someBelow n q
-=======
-some-same : (n : ℕ) (p q : ℕ → Bool) → ((k : ℕ) → p k ≡ q k) → someBelow n p ≡ someBelow n q
->>>>>>> 86240a2c90cd83e25644f0b88dfa5a88eb506822
 some-same n p q same =
     elim (some-tells n p) [
       | inl r ↦ r .0 ∙ sym (some-from n q (r .1 .0) (r .1 .1) (sym (same (r .1 .0)) ∙ r .1 .2))
