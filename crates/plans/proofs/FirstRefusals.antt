@@ -135,3 +135,38 @@ module _ {E : Type 0} (number : E → ℕ) (told : E → List ℕ) (Applies : E 
           let v = must i j (subst Applies (only f (omega arith)) applies) in
           let w = first i j (v .0) (v .1) in
           absurd (grind arith)
+
+-- refusals of one call within those of another
+pub settles-within :
+    {E F : Type 0} (number : E → ℕ) (told : E → List ℕ) (Applies : E → Type 0) (number′ : F → ℕ) (told′ : F → List ℕ)
+    (Applies′ : F → Type 0) (C : E → F) (lo hi : ℕ) → ((e : E) → number′ (C e) ≡ number e) → ((e : E) → told′ (C e) ≡ told e)
+    → ((f : F) → number′ f < hi → (e : E) × (f ≡ C e)) → ((e : E) → Applies e → Applies′ (C e)) → ((e : E) → Applies′ (C e) → Applies e)
+    → (r : Option E) → Settles number told Applies lo hi r → Settles number′ told′ Applies′ lo hi (mapped C r)
+settles-within {E} {F} number told Applies number′ told′ Applies′ C lo hi n t only does must (Some e) s = (
+  omega (arith, n e, s .0),
+  omega (arith, n e, s .1),
+  does e (s .2),
+  λ f g early applies.
+      let less : number′ f < hi =
+      elim early [ inl a ↦ omega (arith, a, n e, s .1) | inr a ↦ omega (arith, a .0, n e, s .1) ] in
+      let (x, same) = only f less in
+      let a : Applies x = must x (subst Applies′ same applies) in
+      let k : number′ f ≡ number x = ap number′ same ∙ n x in
+      let v : told′ f ≡ told x = ap told′ same ∙ t x in
+      s .3 x (omega (arith, k, g))
+      (elim early [ inl b ↦ inl (omega (arith, b, k, n e)) | inr b ↦ inr (omega (arith, b .0, k, n e), rw (v, t e) at (b .1)) ])
+      a,
+)
+settles-within {E} {F} number told Applies number′ told′ Applies′ C lo hi n t only does must None s =
+    λ f g l applies.
+    let (x, same) = only f l in
+    let k : number′ f ≡ number x = ap number′ same ∙ n x in
+    s x (omega (arith, k, g)) (omega (arith, k, l)) (must x (subst Applies′ same applies))
+
+-- nothing after the last test applies
+pub settles-last :
+    {E : Type 0} (number : E → ℕ) (told : E → List ℕ) (Applies : E → Type 0) (lo mid hi : ℕ) (r : Option E) → lo ≤ mid → mid ≤ hi
+    → Settles number told Applies lo mid r → ((f : E) → mid ≤ number f → Applies f → ⊥) → Settles number told Applies lo hi r
+settles-last number told Applies lo mid hi (Some e) h k s none = (s .0, omega (arith, s .1), s .2, s .3)
+settles-last number told Applies lo mid hi None h k s none =
+    λ f g l applies. elim (cases-lt (number f) mid) [ inl less ↦ s f g less applies | inr more ↦ none f more applies ]

@@ -10,7 +10,8 @@ use Rattle.std.specs.declared.option.Option.{Option}
 use Rattle.std.specs.declared.option.Option.the-variants.{Some, None}
 use Rattle.std.proofs.shelf.Tests.{cases-eq, cases-lt, cases-order}
 use Rattle.plans.proofs.LoadFirst.{load-first}
-use Rattle.plans.proofs.Places.{place-first}
+use Rattle.plans.proofs.Places.{place-at}
+use Rattle.plans.proofs.Pigeonhole.{Different}
 use Rattle.plans.proofs.PublishedFeasible.{published-feasible, feasible-unrefused}
 use Rattle.plans.proofs.PublishedLoad.{feasible-published}
 use Rattle.plans.proofs.TableLists.{table-within}
@@ -123,8 +124,9 @@ module _ (codes s : List ℕ) (clean : (e : LoadRefusal) → LoadApplies codes s
             absurd (omega arith)
         | inr (inl less) ↦ less
         | inr (inr more) ↦
-            let u = place-first s k h (λ n a. new k n a h) in
-            let v = place-first s l g (λ n a. new l n a g) in
+            let different : Different m (λ n. getD s n 0) = record { below = modules; once = at-one } in
+            let u = place-at m s refl different k h in
+            let v = place-at m s refl different l g in
             absurd (clean (Backwards (getD s k 0) (getD s l 0)) (modules k h, modules l g, (e, omega arith)))
       ]
 

@@ -1,23 +1,19 @@
 -- A move of a reduction edge leaves a feasible table feasible, and every edge in its direction.
-use Prim.Native.Nat.{ℕ, zero, suc, _+_, _-_, _≤_, _<_}
+use Prim.Native.Nat.{ℕ, _<_}
 use native.Mathlib.Omega.{arith}
-use mathlib.Core.Path.{_≡_, refl, sym, _∙_, ap}
-use mathlib.Core.Bool.{Bool, true, false, cond, _&&_, _||_}
+use mathlib.Core.Path.{_≡_, refl, sym, _∙_}
+use mathlib.Core.List.{List}
 use mathlib.Core.Logic.{_⊎_, inl, inr, _≢_}
-use lib.Dec.{eqb}
+use lib.ListN.{getD}
 use Rattle.std.proofs.shelf.Tests.{cases-eq}
 use Rattle.std.proofs.shelf.Ways.{eqb-tells}
+use Rattle.plans.proofs.Accepted.{Single}
 use Rattle.plans.proofs.Beside.{converse, converse-feasible, TwoGraphs, beside-into}
-use Rattle.plans.proofs.ReverseTables.{Single, Tells, both-tell}
 use Rattle.plans.proofs.Sequences.{edge-onwards}
-use Rattle.plans.specs.Changes.{otherGraph, moveTable, upTo, onFrom}
+use Rattle.plans.proofs.Tellings.{both-tell, either-tell}
+use Rattle.plans.specs.Changes.{otherGraph, moveTable}
 use Rattle.plans.specs.ChangesInWords.{MoveFrom, MoveTo, MoveGains}
-use Rattle.plans.specs.Tables.{Table, FeasibleTable}
-
-either-tell : {P Q : Type 0} {s t : Bool} → Tells s P → Tells t Q → Tells (s || t) (P ⊎ Q)
-either-tell (inl p) q = inl (rw (p .0) refl, inl (p .1))
-either-tell (inr p) (inl q) = inl (rw (p .0, q .0) refl, inr (q .1))
-either-tell (inr p) (inr q) = inr (rw (p .0, q .0) refl, elim [ inl e ↦ p .1 e | inr e ↦ q .1 e ])
+use Rattle.plans.specs.Tables.{Table, FeasibleTable, Fits}
 
 module _ (c : Table) (a b : ℕ) where
   abbrev pub MovedTells : ℕ → ℕ → Type 0
@@ -144,3 +140,13 @@ module _ (m : ℕ) (c : Table) (law : FeasibleTable m c) (a b : ℕ) (some : 0 <
       none i j e =
           let h : 0 < moveTable c a b i j → 0 < c i j = moved-was i j in
           elim (cases-eq (moveTable c a b i j) 0) [ inl z ↦ z | inr n ↦ absurd (omega (arith, h (omega (arith, n)), e)) ]
+
+  -- the same sequence fits
+  pub move-fits : (s : List ℕ) → Fits m c s → Fits m (moveTable c a b) s
+  move-fits s f =
+      record {
+        long = f .long;
+        modules = f .modules;
+        once = f .once;
+        forward = λ k l h i e. f .forward k l h i (moved-was (getD s k 0) (getD s l 0) e);
+      }

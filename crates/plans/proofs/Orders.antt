@@ -1,31 +1,24 @@
 -- The list by counting runs along a total order, and no other list does.
-use Prim.Native.Nat.{ℕ, zero, suc, _+_, _≤_, _<_}
+use Prim.Native.Nat.{ℕ, _<_}
 use native.Mathlib.Omega.{arith}
 use mathlib.Core.Path.{_≡_, refl, sym, _∙_, ap}
-use mathlib.Core.Bool.{Bool, true, false, cond}
+use mathlib.Core.Bool.{Bool, true}
 use mathlib.Core.List.{List}
-use mathlib.Core.Logic.{_⊎_, inl, inr, _≢_}
+use mathlib.Core.Logic.{inl, inr}
 use lib.Dec.{eqb}
-use lib.ListN.{length, getD}
+use lib.ListN.{getD}
 use Rattle.std.specs.Options.{valueOr}
 use Rattle.std.specs.declared.option.Option.{Option}
 use Rattle.std.specs.declared.option.Option.the-variants.{Some, None}
 use Rattle.std.proofs.shelf.Counted.{length-map-counting, getD-map-counting}
 use Rattle.std.proofs.shelf.Lists.{same-lists, getD-default}
-use Rattle.std.proofs.shelf.Tests.{cases-eq, cases-lt, cases-order, eq-eqb, eqb-true}
-use Rattle.std.proofs.shelf.Ways.{tells}
-use Rattle.plans.proofs.Pigeonhole.{Different, Rising, all-found, rising-same}
+use Rattle.std.proofs.shelf.Tests.{cases-eq, eq-eqb, eqb-true}
+use Rattle.plans.proofs.Pigeonhole.{all-found, rising-same}
 use Rattle.plans.proofs.Searches.{first-tells, count-le, count-less}
 use Rattle.plans.specs.First.{IsFirst}
-use Rattle.plans.specs.Orders.{TotalOrder, RunsAlong, OrderedByCount, CountingOrders}
-use Rattle.plans.specs.Search.{firstBelow, countBelow}
+use Rattle.plans.specs.Orders.{TotalOrder, RunsAlong, CountingOrders}
+use Rattle.plans.specs.Search.{firstBelow}
 use Rattle.plans.specs.Sequences.{countBefore, orderedBy}
-
--- a list names every number below m
-pub names-all :
-    (m : ℕ) (before : ℕ → ℕ → Bool) (s : List ℕ) → RunsAlong m before s → (x : ℕ) → x < m
-    → (k : ℕ) × (k < m) × (getD s k 0 ≡ x)
-names-all m before s r = all-found m (λ k. getD s k 0) (record { below = r .modules; once = r .once })
 
 module _ (m : ℕ) (before : ℕ → ℕ → Bool) (o : TotalOrder m before) where
   -- what is before counts fewer

@@ -12,7 +12,7 @@ use Rattle.std.specs.declared.option.Option.the-variants.{Some, None}
 use Rattle.std.proofs.shelf.Tests.{cases-eq, cases-lt, cases-order}
 use Rattle.std.proofs.shelf.Ways.{tells}
 use Rattle.plans.proofs.LoadFirst.{load-first}
-use Rattle.plans.proofs.Places.{place-first, times-twice}
+use Rattle.plans.proofs.Places.{place-at, times-twice}
 use Rattle.plans.proofs.PublishedLoad.{feasible-published, fits-names}
 use Rattle.plans.proofs.TableLists.{table-within}
 use Rattle.plans.specs.FirstRefusals.{FirstRefusal}
@@ -102,8 +102,7 @@ module _ (p : Floorplan) (f : Published p) where
 -- in a sequence that fits, a module's place is where it stands
 pub fits-place : (m : ℕ) (c : Table) (s : List ℕ) → Fits m c s → (k : ℕ) → k < m → placeOf s (getD s k 0) ≡ k
 fits-place m c s t k h =
-    place-first s k (omega (arith, t .long))
-    (λ l g e. let same = t .once l k (omega arith) h e in omega arith)
+    place-at m s (t .long) (record { below = t .modules; once = t .once }) k h
 
 -- no refusal applies to a feasible floorplan
 pub feasible-unrefused :

@@ -13,7 +13,8 @@ use Rattle.std.proofs.shelf.Tests.{cases-eq, cases-lt, cases-order}
 use Rattle.std.proofs.shelf.Ways.{tells}
 use Rattle.plans.proofs.LoadFirst.{load-first}
 use Rattle.plans.proofs.Pigeonhole.{all-found}
-use Rattle.plans.proofs.Places.{place-first, times-some, times-twice, times-once}
+use Rattle.plans.proofs.ReductionEdges.{path-edge}
+use Rattle.plans.proofs.Places.{times-some, times-once}
 use Rattle.plans.proofs.TableLists.{table-within}
 use Rattle.plans.specs.FirstRefusals.{FirstRefusal}
 use Rattle.plans.specs.LoadLaw.{LoadLaw, LoadApplies, given}
@@ -29,11 +30,6 @@ use Rattle.plans.specs.declared.refusals.LoadRefusal.the-variants.{WrongShape,
 pub fits-names :
     (m : ℕ) (c : Table) (s : List ℕ) → Fits m c s → (i : ℕ) → i < m → (k : ℕ) × (k < m) × (getD s k 0 ≡ i)
 fits-names m c s f = all-found m (λ k. getD s k 0) (record { below = f .modules; once = f .once })
-
--- in a closed graph a path is an edge
-pub path-edge : (m : ℕ) (c : Table) → FeasibleTable m c → (g i j : ℕ) → 0 < g → Path c g i j → c i j ≡ g
-path-edge m c f g i j h (edge e) = e
-path-edge m c f g i j h (then {j = k} e p) = f .closed g i k j h e (path-edge m c f g k j h p)
 
 -- two modules of a feasible table have exactly one edge
 one-edge : (m : ℕ) (c : Table) → FeasibleTable m c → (i j : ℕ) → i < m → j < m → i ≢ j → edgesBetween c i j ≡ 1
@@ -72,11 +68,11 @@ feasible-published p f =
       codes = f .table .small;
       acyclic =
           λ g h i path.
-          let e = path-edge (p .size) (tableIn p) (f .table) g i i h path in
+          let e = path-edge (p .size) (tableIn p) (f .table) g h path in
           let a = f .table .apart i in
           omega arith;
       connected = one-edge (p .size) (tableIn p) (f .table);
-      closure = λ g h i j path. path-edge (p .size) (tableIn p) (f .table) g i j h path;
+      closure = λ g h i j path. path-edge (p .size) (tableIn p) (f .table) g h path;
       long = f .fits .long;
       modules = f .fits .modules;
       once = fits-once (p .size) (tableIn p) (p .sequence) (f .fits);

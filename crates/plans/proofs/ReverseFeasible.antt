@@ -1,11 +1,12 @@
 -- A reverse of a reduction edge leaves a feasible table feasible.
-use Prim.Native.Nat.{ℕ, zero, suc, _+_, _≤_, _<_}
+use Prim.Native.Nat.{ℕ, _≤_, _<_}
 use native.Mathlib.Omega.{arith}
-use mathlib.Core.Path.{_≡_, refl, sym, _∙_, ap}
+use mathlib.Core.Path.{_≡_, sym, _∙_}
 use mathlib.Core.Logic.{_⊎_, inl, inr, _≢_}
 use Rattle.std.proofs.shelf.Tests.{cases-eq}
+use Rattle.plans.proofs.Accepted.{Single}
 use Rattle.plans.proofs.Beside.{converse, converse-feasible, TwoGraphs, beside-into, beside-onto}
-use Rattle.plans.proofs.ReverseTables.{Single, ReversedTells, sides-apart, to-onwards, from-backwards, never, reversed}
+use Rattle.plans.proofs.ReverseTables.{ReversedTells, sides-apart, to-onwards, from-backwards, never, reversed}
 use Rattle.plans.specs.Changes.{reverseTable}
 use Rattle.plans.specs.ChangesInWords.{ReverseFrom, ReverseTo, ReverseGains}
 use Rattle.plans.specs.Tables.{Table, FeasibleTable}

@@ -1,23 +1,17 @@
 -- A reverse of a reduction edge in a feasible table, and what the reversed table has.
-use Prim.Native.Nat.{ℕ, zero, suc, _+_, _≤_, _<_}
+use Prim.Native.Nat.{ℕ, _<_}
 use native.Mathlib.Omega.{arith}
-use mathlib.Core.Path.{_≡_, refl, sym, _∙_, ap}
-use mathlib.Core.Bool.{Bool, true, false, cond, not, _&&_, _||_}
+use mathlib.Core.Path.{_≡_, refl, _∙_}
+use mathlib.Core.Bool.{Bool, cond, not, _&&_, _||_}
 use mathlib.Core.Logic.{_⊎_, inl, inr, _≢_}
 use lib.Dec.{eqb}
-use Rattle.std.proofs.shelf.Tests.{cases-eq, cases-bool, ne-eqb}
+use Rattle.std.proofs.shelf.Tests.{cases-eq, ne-eqb}
 use Rattle.std.proofs.shelf.Ways.{tells}
+use Rattle.plans.proofs.Accepted.{Single}
+use Rattle.plans.proofs.Tellings.{Tells, both-tell}
 use Rattle.plans.specs.Changes.{reverseTable, withoutEdge, upTo, onFrom}
 use Rattle.plans.specs.ChangesInWords.{ReverseFrom, ReverseTo, ReverseGains}
 use Rattle.plans.specs.Tables.{Table, FeasibleTable}
-
--- no module stands between a and b in the graph of (a, b)
-abbrev pub Single : Table → ℕ → ℕ → Type 0
-Single c a b = (k : ℕ) → c a k ≡ c a b → c k b ≡ c a b → ⊥
-
--- a test with what it tells
-abbrev pub Tells : Bool → Type 0 → Type 0
-Tells t P = ((t ≡ true) × P) ⊎ ((t ≡ false) × (P → ⊥))
 
 -- k is x, or is not y and has the code g
 side-tells :
@@ -36,11 +30,6 @@ side-tells k x y code g h t is =
                 ]
           ]
     ]
-
-pub both-tell : {P Q : Type 0} {s t : Bool} → Tells s P → Tells t Q → Tells (s && t) (P × Q)
-both-tell (inl p) (inl q) = inl (rw (p .0, q .0) refl, (p .1, q .1))
-both-tell (inl p) (inr q) = inr (rw (p .0, q .0) refl, λ r. q .1 (r .1))
-both-tell (inr p) q = inr (rw (p .0) refl, λ r. p .1 (r .0))
 
 module _ (c : Table) (a b : ℕ) (some : 0 < c a b) where
   from-test : ℕ → Bool

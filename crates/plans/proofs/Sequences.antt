@@ -1,18 +1,17 @@
 -- The edges of a feasible table order its modules, so one sequence fits.
-use Prim.Native.Nat.{ℕ, zero, suc, _+_, _≤_, _<_}
+use Prim.Native.Nat.{ℕ, _<_}
 use native.Mathlib.Omega.{arith}
-use mathlib.Core.Path.{_≡_, refl, sym, _∙_, ap}
-use mathlib.Core.Bool.{Bool, true, false, cond}
+use mathlib.Core.Path.{_≡_, refl, ap}
 use mathlib.Core.List.{List}
-use mathlib.Core.Logic.{_⊎_, inl, inr, _≢_}
-use lib.Dec.{ltb}
-use lib.ListN.{length, getD}
-use Rattle.std.proofs.shelf.Tests.{lt-ltb, le-ltb, ltb-true, cases-eq}
-use Rattle.plans.proofs.Orders.{ordered-by-count, names-all}
-use Rattle.plans.specs.OneSequence.{OneSequence, SequenceDetermined}
+use mathlib.Core.Logic.{inl, inr, _≢_}
+use lib.ListN.{getD}
+use Rattle.std.proofs.shelf.Tests.{lt-ltb, le-ltb, ltb-true}
+use Rattle.plans.proofs.Orders.{ordered-by-count}
+use Rattle.plans.proofs.Pigeonhole.{Different}
+use Rattle.plans.specs.OneSequence.{SequenceDetermined}
 use Rattle.plans.specs.Orders.{TotalOrder, RunsAlong}
 use Rattle.plans.specs.Sequences.{edgeTo, fitting}
-use Rattle.plans.specs.Tables.{Table, FeasibleTable, Fits}
+use Rattle.plans.specs.Tables.{Table, Floorplan, FeasibleTable, Fits, Feasible, tableIn}
 
 -- fitting is running along the edges
 pub runs-from-fits : (m : ℕ) (c : Table) (s : List ℕ) → Fits m c s → RunsAlong m (edgeTo c) s
@@ -33,10 +32,9 @@ fits-from-runs m c s r =
       forward = λ k l h i e. r .forward k l h i (lt-ltb 0 (c (getD s k 0) (getD s l 0)) e);
     }
 
--- a sequence that fits names every module
-pub fits-all :
-    (m : ℕ) (c : Table) (s : List ℕ) → Fits m c s → (x : ℕ) → x < m → (k : ℕ) × (k < m) × (getD s k 0 ≡ x)
-fits-all m c s f = names-all m (edgeTo c) s (runs-from-fits m c s f)
+-- the entries of a sequence that fits are different modules
+pub fits-different : (m : ℕ) (c : Table) (s : List ℕ) → Fits m c s → Different m (λ k. getD s k 0)
+fits-different m c s f = record { below = f .modules; once = f .once }
 
 module _ (m : ℕ) (c : Table) (law : FeasibleTable m c) where
   -- of three edges round a cycle two that follow each other have one graph, and closure refutes them
@@ -92,3 +90,7 @@ fits-earlier m c law s f k l h i =
       | inl e ↦ e
       | inr e ↦ absurd (omega (arith, f .forward l k i (omega arith) e))
     ]
+
+-- the sequence of a feasible floorplan is the one by counting
+pub sequence-is-fitting : (p : Floorplan) → Feasible p → p .sequence ≡ fitting (p .size) (tableIn p)
+sequence-is-fitting p law = sequence-determined (p .size) (tableIn p) (law .table) .only (p .sequence) (law .fits)

@@ -84,11 +84,11 @@ module _ {L : Type 0} (K : Kind L) where
     pathFrom start [] = start
     pathFrom start (j ∷ js) = pathFrom (x .step j start) js
 
-    -- the near edge of i is the least that no path to i exceeds
+    -- where nothing is fixed: the near edge of i is the least that no path to i exceeds
     pub record LongestPaths (e : ℕ → L) (i : ℕ) : Type 0 where
       pub covers : (js : List ℕ) → Leads js i → AtMost K (pathFrom (K .origin) js) (e i)
       pub tight : (bound : L) → ((js : List ℕ) → Leads js i → AtMost K (pathFrom (K .origin) js) bound) → AtMost K (e i) bound
 
-    -- some path to i is as long as its near edge
+    -- where nothing is fixed: some path to i is as long as its near edge
     abbrev pub LongestPath : (ℕ → L) → ℕ → Type 0
     LongestPath e i = (js : List ℕ) × Leads js i × (e i ≡ pathFrom (K .origin) js)

@@ -1,5 +1,5 @@
 -- What swap, reverse and move do to each graph: the edges that it gains and loses, and that the rest stays.
-use Prim.Native.Nat.{ℕ, _<_}
+use Prim.Native.Nat.{ℕ}
 use mathlib.Core.Path.{_≡_}
 use mathlib.Core.List.{map}
 use mathlib.Core.Logic.{_⊎_, _≢_, _↔_}
@@ -42,7 +42,7 @@ Becomes after had gains loses = after ↔ (gains ⊎ (had × (loses → ⊥)))
 pub record SwapWords (p : Floorplan) (a b : ℕ) : Type 0 where
   pub size : changed p (Swap a b) .size ≡ p .size
   pub graphs :
-      (g i j : ℕ) → 0 < g
+      (g i j : ℕ)
       → Edge (tableIn (changed p (Swap a b))) g i j ↔ Edge (tableIn p) g (exchange a b i) (exchange a b j)
   pub sequence : changed p (Swap a b) .sequence ≡ map (exchange a b) (p .sequence)
 
@@ -84,3 +84,7 @@ pub record ChangesInWords (p : Floorplan) : Type 0 where
   pub swaps : (a b : ℕ) → changeRefusal p (Swap a b) ≡ None → SwapWords p a b
   pub reverses : (a b : ℕ) → changeRefusal p (Reverse a b) ≡ None → ReverseWords p a b
   pub moves : (a b : ℕ) → changeRefusal p (MoveEdge a b) ≡ None → MoveWords p a b
+
+-- for every feasible floorplan
+abbrev pub ChangesAsTold : Type 0
+ChangesAsTold = (p : Floorplan) → Feasible p → ChangesInWords p

@@ -64,40 +64,47 @@ refused s e = record { state = s; answer = Err e }
 abbrev pub done : {E : Type 0} → State → Step E
 done s = record { state = s; answer = Ok tt }
 
+-- a load by whether a trial is open and by what it gives
+abbrev pub loadStep : State → Option Layout → Result Floorplan LoadRefusal → Step PlanLoadRefusal
+loadStep s (Some before) given = refused s load.TrialOpen
+loadStep s None (Err e) = refused s (load.Refused e)
+loadStep s None (Ok p) = done (made-of p)
+
 -- load: refused in a trial; else it replaces the floorplan and leaves no module rotated
 abbrev pub model-load : State → List ℕ → List ℕ → Step PlanLoadRefusal
-model-load s codes sequence = within (s .noted) (after-load codes sequence)
-  where
-    within : Option Layout → Result Floorplan LoadRefusal → Step PlanLoadRefusal
-    within (Some before) r = refused s load.TrialOpen
-    within None (Err e) = refused s (load.Refused e)
-    within None (Ok p) = done (made-of p)
+model-load s codes sequence = loadStep s (s .noted) (after-load codes sequence)
+
+-- a layout after a change of its floorplan
+abbrev pub layoutAfter : Layout → Change → Floorplan → Layout
+layoutAfter l c p = record { plan = p; rotated = rotatedAfter (l .rotated) c }
+
+-- a change by whether a trial is open and by what it gives
+abbrev pub changeStep : State → Change → Option Layout → Result Floorplan ChangeRefusal → Step PlanChangeRefusal
+changeStep s c (Some before) given = refused s change.TrialOpen
+changeStep s c None (Err e) = refused s (change.Refused e)
+changeStep s c None (Ok p) = done (record { current = layoutAfter (s .current) c p; noted = Some (s .current) })
 
 -- change: refused in a trial; else it opens one, which notes what was current
 abbrev pub model-change : State → Change → Step PlanChangeRefusal
-model-change s c = within (s .noted) (after-change (s .current .plan) c)
-  where
-    within : Option Layout → Result Floorplan ChangeRefusal → Step PlanChangeRefusal
-    within (Some before) r = refused s change.TrialOpen
-    within None (Err e) = refused s (change.Refused e)
-    within None (Ok p) =
-        done (record { current = record { plan = p; rotated = rotatedAfter (s .current .rotated) c }; noted = Some (s .current) })
+model-change s c = changeStep s c (s .noted) (after-change (s .current .plan) c)
+
+-- a keep by whether a trial is open
+abbrev pub keepStep : State → Option Layout → Step TrialRefusal
+keepStep s None = refused s NoTrial
+keepStep s (Some before) = done (settled (s .current))
 
 -- keep: refused without a trial; else it drops what was noted
 abbrev pub model-keep : State → Step TrialRefusal
-model-keep s = within (s .noted)
-  where
-    within : Option Layout → Step TrialRefusal
-    within None = refused s NoTrial
-    within (Some before) = done (settled (s .current))
+model-keep s = keepStep s (s .noted)
+
+-- an undo by whether a trial is open
+abbrev pub undoStep : State → Option Layout → Step TrialRefusal
+undoStep s None = refused s NoTrial
+undoStep s (Some before) = done (settled before)
 
 -- undo: refused without a trial; else it restores what was noted
 abbrev pub model-undo : State → Step TrialRefusal
-model-undo s = within (s .noted)
-  where
-    within : Option Layout → Step TrialRefusal
-    within None = refused s NoTrial
-    within (Some before) = done (settled before)
+model-undo s = undoStep s (s .noted)
 
 -- what a packing of a state packs
 abbrev pub taskAt : {L : Type 0} → State → List (Sides L) → Task L

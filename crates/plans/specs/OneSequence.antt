@@ -6,6 +6,7 @@ use Rattle.plans.specs.Orders.{TotalOrder}
 use Rattle.plans.specs.Sequences.{edgeTo, fitting}
 use Rattle.plans.specs.Tables.{Table, FeasibleTable, Fits}
 
+-- one sequence fits the table
 pub record OneSequence (m : ℕ) (c : Table) : Type 0 where
   -- the edges of both graphs together are a total order of the modules
   pub order : TotalOrder m (edgeTo c)

@@ -6,6 +6,7 @@ use mathlib.Core.List.{List}
 use mathlib.Core.Logic.{_⊎_, _≢_}
 use lib.ListN.{length, getD}
 use Rattle.plans.specs.Sequences.{countBefore, orderedBy}
+use Rattle.plans.specs.Tables.{Sequenced}
 
 -- a strict order of the numbers below m in which any two of them compare
 pub record TotalOrder (m : ℕ) (before : ℕ → ℕ → Bool) : Type 0 where
@@ -18,15 +19,8 @@ pub record TotalOrder (m : ℕ) (before : ℕ → ℕ → Bool) : Type 0 where
   pub total : (i j : ℕ) → i < m → j < m → i ≢ j → (before i j ≡ true) ⊎ (before j i ≡ true)
 
 -- a list that names each number below m once, and each after all that are before it
-pub record RunsAlong (m : ℕ) (before : ℕ → ℕ → Bool) (s : List ℕ) : Type 0 where
-  -- one place for each number
-  pub long : length s ≡ m
-  -- a number below m at each place
-  pub modules : (k : ℕ) → k < m → getD s k 0 < m
-  -- and no number at two
-  pub once : (k l : ℕ) → k < m → l < m → getD s k 0 ≡ getD s l 0 → k ≡ l
-  -- what is before stands earlier
-  pub forward : (k l : ℕ) → k < m → l < m → before (getD s k 0) (getD s l 0) ≡ true → k < l
+abbrev pub RunsAlong : ℕ → (ℕ → ℕ → Bool) → List ℕ → Type 0
+RunsAlong m before s = Sequenced m (λ i j. before i j ≡ true) s
 
 -- what placing each number by the count of those before it gives
 pub record OrderedByCount (m : ℕ) (before : ℕ → ℕ → Bool) : Type 0 where

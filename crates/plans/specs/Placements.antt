@@ -5,7 +5,7 @@ use mathlib.Core.Bool.{Bool, true, false, _||_}
 use mathlib.Core.Logic.{_≢_}
 use Rattle.plans.specs.Axes.{Keeps, Inside, LongestPaths, LongestPath}
 use Rattle.plans.specs.Kinds.{Kind, AtMost}
-use Rattle.plans.specs.Packing.{Task, Pins, axisOf, farOf, chipOf}
+use Rattle.plans.specs.Packing.{Task, Pins, noPins, axisOf, farOf, chipOf}
 
 -- near edges across and upwards of each module
 pub record Placement (L : Type 0) : Type 0 where
@@ -53,9 +53,9 @@ module _ {L : Type 0} (K : Kind L) (t : Task L) where
   abbrev pub NoPlacement : Pins L → Type 0
   NoPlacement pins = (e : Placement L) → KeepsPlan pins e → InsidePlan pins e → ⊥
 
-  -- along both axes each near edge is the length of a longest path
-  pub record ByLongestPaths (pins : Pins L) (e : Placement L) : Type 0 where
-    pub across : (i : ℕ) → i < t .plan .size → LongestPaths K (axisOf K t pins 1) (e .across) i
-    pub up : (i : ℕ) → i < t .plan .size → LongestPaths K (axisOf K t pins 2) (e .up) i
-    pub acrossPath : (i : ℕ) → i < t .plan .size → LongestPath K (axisOf K t pins 1) (e .across) i
-    pub upPath : (i : ℕ) → i < t .plan .size → LongestPath K (axisOf K t pins 2) (e .up) i
+  -- with no module pinned, along both axes each near edge is the length of a longest path
+  pub record ByLongestPaths (e : Placement L) : Type 0 where
+    pub across : (i : ℕ) → i < t .plan .size → LongestPaths K (axisOf K t noPins 1) (e .across) i
+    pub up : (i : ℕ) → i < t .plan .size → LongestPaths K (axisOf K t noPins 2) (e .up) i
+    pub acrossPath : (i : ℕ) → i < t .plan .size → LongestPath K (axisOf K t noPins 1) (e .across) i
+    pub upPath : (i : ℕ) → i < t .plan .size → LongestPath K (axisOf K t noPins 2) (e .up) i

@@ -7,7 +7,7 @@ use Rattle.std.specs.Results.{isOk}
 use Rattle.std.specs.declared.option.Option.{Option}
 use Rattle.std.specs.declared.option.Option.the-variants.{Some, None}
 use Rattle.plans.specs.Changes.{changed}
-use Rattle.plans.specs.Model.{State, Layout, unrotated, settled, rotatedAfter, model-load, model-change, model-keep, model-undo}
+use Rattle.plans.specs.Model.{State, Layout, unrotated, settled, layoutAfter, model-load, model-change, model-keep, model-undo}
 use Rattle.plans.specs.Tables.{Floorplan}
 use Rattle.plans.specs.declared.change.Change.{Change}
 
@@ -80,12 +80,12 @@ noteCall a undo = record { origin = a .origin; kept = a .kept; trial = None }
 noteCall a ask = a
 
 -- one call more with whether it was accepted
+abbrev pub noteIf : Bool → Account → Call → Account
+noteIf true a c = noteCall a c
+noteIf false a c = a
+
 abbrev pub note : Account → Told → Account
-note a t = noteIf (t .ok)
-  where
-    noteIf : Bool → Account
-    noteIf true = noteCall a (t .call)
-    noteIf false = a
+note a t = noteIf (t .ok) a (t .call)
 
 -- the account of a list of calls with their answers
 abbrev pub accountFrom : Account → List Told → Account
@@ -98,7 +98,7 @@ account ts = accountFrom newAccount ts
 
 -- a layout after one change, and after several in turn
 abbrev pub changedLayout : Layout → Change → Layout
-changedLayout l c = record { plan = changed (l .plan) c; rotated = rotatedAfter (l .rotated) c }
+changedLayout l c = layoutAfter l c (changed (l .plan) c)
 
 abbrev pub replayed : Layout → List Change → Layout
 replayed l [] = l
@@ -110,10 +110,11 @@ originLayout made making = made
 originLayout made (loading codes sequence) =
     unrotated (record { size = length sequence; codes = codes; sequence = sequence })
 
+-- a layout with a change on trial, or with none
+abbrev pub onTrial : Layout → Option Change → State
+onTrial l None = settled l
+onTrial l (Some c) = record { current = changedLayout l c; noted = Some l }
+
 -- the state that an account gives: the origin, then the changes kept, then the one on trial
 abbrev pub stateOf : Layout → Account → State
 stateOf made a = onTrial (replayed (originLayout made (a .origin)) (a .kept)) (a .trial)
-  where
-    onTrial : Layout → Option Change → State
-    onTrial l None = settled l
-    onTrial l (Some c) = record { current = changedLayout l c; noted = Some l }

@@ -58,16 +58,20 @@ pub record FeasibleTable (m : ℕ) (c : Table) : Type 0 where
   -- each graph has with (i, j) and (j, k) also (i, k)
   pub closed : (g i j k : ℕ) → 0 < g → c i j ≡ g → c j k ≡ g → c i k ≡ g
 
--- a sequence that names each module once and runs along every edge
-pub record Fits (m : ℕ) (c : Table) (s : List ℕ) : Type 0 where
-  -- one place for each module
+-- a list that names each number below m once, and each after all that are before it
+pub record Sequenced (m : ℕ) (Before : ℕ → ℕ → Type 0) (s : List ℕ) : Type 0 where
+  -- one place for each number
   pub long : length s ≡ m
-  -- a module at each place
+  -- a number below m at each place
   pub modules : (k : ℕ) → k < m → getD s k 0 < m
-  -- and no module at two
+  -- and no number at two
   pub once : (k l : ℕ) → k < m → l < m → getD s k 0 ≡ getD s l 0 → k ≡ l
-  -- edges point forwards
-  pub forward : (k l : ℕ) → k < m → l < m → 0 < c (getD s k 0) (getD s l 0) → k < l
+  -- what is before stands earlier
+  pub forward : (k l : ℕ) → k < m → l < m → Before (getD s k 0) (getD s l 0) → k < l
+
+-- a sequence that names each module once and runs along every edge
+abbrev pub Fits : ℕ → Table → List ℕ → Type 0
+Fits m c s = Sequenced m (λ i j. 0 < c i j) s
 
 -- a floorplan that is a pair of closure graphs with their packing sequence
 pub record Feasible (p : Floorplan) : Type 0 where

@@ -1,0 +1,2 @@
+-- What the proofs of the representations share.
+pub mod Layers
