@@ -1,0 +1,5 @@
+// Reading two sheets into a representation: parsing them, and loading what they say.
+mod refused;
+mod whole;
+
+pub use whole::read;
