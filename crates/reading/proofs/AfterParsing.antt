@@ -31,15 +31,22 @@ use Rattle.reading.proofs.Loads.{front-read, load-refused, load-accepted, told
 use Rattle.reading.proofs.Outcomes.{parsed-none, of-plan}
 use Rattle.reading.proofs.Passed.{few-modules, code-room, place-room, well-placed}
 
-module _ (sizes plan : RefT (List ℕ)) (before after : Held) (p : Parsed) (answered : Answers sizes plan before (Ok p)) (left : Leaves (now sizes) (now plan) before after) (codes-kept : length (after .codes) ≡ length (before .codes)) (places-kept : length (after .places) ≡ length (before .places)) where
+-- a done parsing, which left its lists as long as they were
+pub record Done (sizes plan : RefT (List ℕ)) (before after : Held) (p : Parsed) : Type 0 where
+  pub answered : Answers sizes plan before (Ok p)
+  pub left : Leaves (now sizes) (now plan) before after
+  pub codes-kept : length (after .codes) ≡ length (before .codes)
+  pub places-kept : length (after .places) ≡ length (before .places)
+
+module _ {sizes plan : RefT (List ℕ)} {before after : Held} {p : Parsed} (d : Done sizes plan before after p) where
   passed : first (checksFor (now sizes) (now plan) before) ≡ None
-  passed = parsed-none sizes plan (first (checksFor (now sizes) (now plan) before)) p answered
+  passed = parsed-none sizes plan (first (checksFor (now sizes) (now plan) before)) p (d .answered)
 
   done : Read (now sizes) (now plan) after
-  done = subst (λ o. Leaves-by (now sizes) (now plan) o before after) passed left
+  done = subst (λ o. Leaves-by (now sizes) (now plan) o before after) passed (d .left)
 
   parses : Parses (now plan) p
-  parses = subst (λ o. Answers-by sizes plan o (Ok p)) passed answered
+  parses = subst (λ o. Answers-by sizes plan o (Ok p)) passed (d .answered)
 
   same : p .modules ≡ modulesOf (now plan)
   same = parses .modules
@@ -52,10 +59,10 @@ module _ (sizes plan : RefT (List ℕ)) (before after : Held) (p : Parsed) (answ
   codes-end =
       let h = mul-le (p .modules) (p .modules) 64 64 few few in
       let room = code-room (now sizes) (now plan) before passed in
-      omega (arith, h, room, codes-kept)
+      omega (arith, h, room, d .codes-kept)
 
   pub places-end : p .modules ≤ length (after .places)
-  places-end = let room = place-room (now sizes) (now plan) before passed in omega (arith, few, room, places-kept)
+  places-end = let room = place-room (now sizes) (now plan) before passed in omega (arith, few, room, d .places-kept)
 
   -- and what the refusals tell lies in the sheet
   pub placed : WellPlaced (now plan) (p .modules)
