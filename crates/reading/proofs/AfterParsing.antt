@@ -3,6 +3,7 @@ use Prim.Native.Nat.{ℕ, _-_, _*_, _≤_}
 use denote.Ref.{RefT, now}
 use mathlib.Core.Path.{_≡_, sym, _∙_, ap, ap₂, subst}
 use mathlib.Core.List.{List, map}
+use mathlib.Core.Logic.{inr}
 use native.Mathlib.Omega.{arith}
 use lib.ListN.{length, take}
 use Rattle.std.specs.Iters.{counting}
@@ -12,22 +13,24 @@ use Rattle.std.specs.declared.result.Result.{Result}
 use Rattle.std.specs.declared.result.Result.the-variants.{Ok, Err}
 use Rattle.std.proofs.shelf.Bits.{mul-le}
 use Rattle.std.proofs.shelf.Counted.{length-map-counting}
+use Rattle.plans.proofs.LoadLaw.{load-law}
 use Rattle.plans.specs.Changes.{Follows, after-load, unless}
 use Rattle.plans.specs.Search.{orElse}
 use Rattle.plans.specs.Tables.{Floorplan}
 use Rattle.plans.specs.declared.refusals.LoadRefusal.{LoadRefusal}
-use Rattle.sheets.specs.Checks.{first}
+use Rattle.sheets.specs.Checks.{first, None-applies}
+use Rattle.sheets.proofs.CheckLemmas.{none-applies}
 use Rattle.sheets.specs.Lists.{Filled}
 use Rattle.sheets.specs.Parsing.{Held, Answers, Answers-by, Leaves, Leaves-by, Parses, Read, Tells, checksFor, ofSheet}
 use Rattle.sheets.specs.Reading.{modulesOf, codeRead, placeRead}
 use Rattle.sheets.specs.declared.fault.Fault.{Fault}
 use Rattle.sheets.specs.declared.fault.Finding.{Finding}
 use Rattle.sheets.specs.declared.parsed.Parsed.{Parsed}
-use Rattle.reading.specs.Outcome.{Answered, firstFault, meansAfter}
+use Rattle.reading.specs.Outcome.{Answered, First-read, firstFault, meansAfter}
 use Rattle.reading.specs.PlanFaults.{planFinding}
 use Rattle.reading.specs.Rows.{WellPlaced, ToldInPlan}
 use Rattle.reading.specs.Written.{codesWritten, sequenceWritten, refusalWritten, floorplanWritten}
-use Rattle.reading.proofs.Loads.{front-read, load-refused, load-accepted, told-in-plan}
+use Rattle.reading.proofs.Loads.{front-read, load-refused, load-accepted, answered-first, told-in-plan, shape-right}
 use Rattle.reading.proofs.Outcomes.{parsed-none, of-plan}
 use Rattle.reading.proofs.Passed.{few-modules, code-room, place-room, well-placed}
 
@@ -88,37 +91,61 @@ module _ {sizes plan : RefT (List ℕ)} {before after : Held} {p : Parsed} (d : 
   as-written : (r : Result (Unit {0}) LoadRefusal) (old new : Floorplan) → Loaded r old new → Follows (unless (refusalWritten (now plan)) (floorplanWritten (now plan))) r old new
   as-written r old new h = subst (λ l. Follows l r old new) (ap₂ after-load codes-loaded places-loaded) h
 
+  no-check : None-applies (checksFor (now sizes) (now plan) before)
+  no-check = none-applies (checksFor (now sizes) (now plan) before) passed
+
   module _ (old new : Floorplan) (accepted : Loaded (Ok tt) old new) where
+    by-load : (refusalWritten (now plan) ≡ None) × (new ≡ floorplanWritten (now plan))
+    by-load = load-accepted (refusalWritten (now plan)) (floorplanWritten (now plan)) old new (as-written (Ok tt) old new accepted)
+
     none : firstFault (now sizes) (now plan) before ≡ None
-    none =
-        ap₂ (λ o r. orElse o (mapped (planFinding (now plan) (modulesOf (now plan))) r)) passed
-        (load-accepted (refusalWritten (now plan)) (floorplanWritten (now plan)) old new (as-written (Ok tt) old new accepted) .0)
+    none = ap₂ (λ o r. orElse o (mapped (planFinding (now plan) (modulesOf (now plan))) r)) passed (by-load .0)
 
     pub done-answered : Answered sizes plan before (Ok p)
     done-answered = subst (λ o. Answers-by sizes plan o (Ok p)) (sym none) parses
 
     pub done-means : new ≡ meansAfter (now plan) (firstFault (now sizes) (now plan) before) old
-    done-means =
-        load-accepted (refusalWritten (now plan)) (floorplanWritten (now plan)) old new (as-written (Ok tt) old new accepted) .1
-        ∙ ap (λ o. meansAfter (now plan) o old) (sym none)
+    done-means = by-load .1 ∙ ap (λ o. meansAfter (now plan) o old) (sym none)
+
+    pub done-law : First-read sizes plan before (Ok p)
+    done-law = (no-check, load-law .accepted (codesWritten (now plan)) (sequenceWritten (now plan)) (by-load .0))
 
   module _ (old new : Floorplan) (e : LoadRefusal) (refused : Loaded (Err e) old new) where
-    by-load : (refusalWritten (now plan) ≡ Some e) × (new ≡ old)
-    by-load = load-refused (refusalWritten (now plan)) (floorplanWritten (now plan)) old new e (as-written (Err e) old new refused)
+    refused-by : (refusalWritten (now plan) ≡ Some e) × (new ≡ old)
+    refused-by = load-refused (refusalWritten (now plan)) (floorplanWritten (now plan)) old new e (as-written (Err e) old new refused)
 
     some : firstFault (now sizes) (now plan) before ≡ Some (planFinding (now plan) (modulesOf (now plan)) e)
-    some = ap₂ (λ o r. orElse o (mapped (planFinding (now plan) (modulesOf (now plan))) r)) passed (by-load .0)
+    some = ap₂ (λ o r. orElse o (mapped (planFinding (now plan) (modulesOf (now plan))) r)) passed (refused-by .0)
 
     pub refused-told : ToldInPlan (p .modules) e
     refused-told =
         subst (λ k. ToldInPlan k e) (length-map-counting (placeRead (now plan) (modulesOf (now plan))) 0 (modulesOf (now plan)) ∙ sym same)
-        (told-in-plan (codesWritten (now plan)) (sequenceWritten (now plan)) e (by-load .0))
+        (told-in-plan (codesWritten (now plan)) (sequenceWritten (now plan)) e (refused-by .0))
 
-    pub refused-answered : (f : Fault) → Tells plan (planFinding (now plan) (p .modules) e) f → Answered sizes plan before (Err f)
-    refused-answered f tells =
-        subst (λ o. Answers-by sizes plan o (Err f)) (sym some)
-        (subst (λ s. Tells (ofSheet sizes plan s) (planFinding (now plan) (modulesOf (now plan)) e) f) (sym (of-plan (now plan) (modulesOf (now plan)) e))
-        (subst (λ k. Tells plan (planFinding (now plan) k e) f) same tells))
+    module _ (f : Fault) (told : Tells plan (planFinding (now plan) (p .modules) e) f) where
+      tells : Tells plan (planFinding (now plan) (modulesOf (now plan)) e) f
+      tells = subst (λ k. Tells plan (planFinding (now plan) k e) f) same told
+
+      pub refused-answered : Answered sizes plan before (Err f)
+      refused-answered =
+          subst (λ o. Answers-by sizes plan o (Err f)) (sym some)
+          (subst (λ s. Tells (ofSheet sizes plan s) (planFinding (now plan) (modulesOf (now plan)) e) f) (sym (of-plan (now plan) (modulesOf (now plan)) e)) tells)
+
+      pub refused-law : First-read sizes plan before (Err f)
+      refused-law =
+          let m = modulesOf (now plan) in
+          let stands = answered-first (codesWritten (now plan)) (sequenceWritten (now plan)) e (refused-by .0) in
+          let long : length (sequenceWritten (now plan)) ≡ m = length-map-counting (placeRead (now plan) m) 0 m in
+          let full = length-map-counting (codeRead (now plan) m) 0 (m * m) ∙ ap₂ (λ a b. a * b) (sym long) (sym long) in
+          inr (
+            no-check,
+            record {
+              refusal = e;
+              stands = stands;
+              shaped = shape-right (codesWritten (now plan)) (sequenceWritten (now plan)) e (omega (arith, long, few, same)) full (stands .0);
+              told = tells;
+            },
+          )
 
     pub refused-means : new ≡ meansAfter (now plan) (firstFault (now sizes) (now plan) before) old
-    refused-means = by-load .1 ∙ ap (λ o. meansAfter (now plan) o old) (sym some)
+    refused-means = refused-by .1 ∙ ap (λ o. meansAfter (now plan) o old) (sym some)

@@ -1,7 +1,8 @@
 -- What a load answers says which refusal came first, and that it tells a part of the plan.
-use Prim.Native.Nat.{ℕ, _≤_, _<_}
+use Prim.Native.Nat.{ℕ, _*_, _≤_, _<_}
 use mathlib.Core.Path.{_≡_, refl, sym, _∙_, ap, subst}
 use mathlib.Core.List.{List, map}
+use mathlib.Core.Logic.{inl, inr, _≢_}
 use native.Mathlib.Omega.{arith}
 use lib.Dec.{ltb}
 use lib.ListN.{length, take}
@@ -12,7 +13,7 @@ use Rattle.std.specs.declared.result.Result.the-variants.{Ok, Err}
 use Rattle.std.proofs.shelf.Counted.{fill-by-all}
 use Rattle.std.proofs.shelf.Lists.{length-take-le, getD-take}
 use Rattle.std.proofs.shelf.Tests.{cond-true, lt-ltb}
-use Rattle.plans.proofs.LoadFirst.{load-first}
+use Rattle.plans.proofs.LoadLaw.{load-law}
 use Rattle.plans.specs.Changes.{Follows, unless}
 use Rattle.plans.specs.FirstRefusals.{FirstRefusal}
 use Rattle.plans.specs.LoadLaw.{LoadApplies}
@@ -53,6 +54,18 @@ applies-in-plan codes s (NotClosed i j) a = (a .0, a .1)
 applies-in-plan codes s (WrongPlace k) a = a .0
 applies-in-plan codes s (Backwards i j) a = (a .0, a .1)
 
+-- a refusal that is answered is the first
+pub answered-first :
+    (codes s : List ℕ) (e : LoadRefusal) → loadRefusal codes s ≡ Some e
+    → FirstRefusal numberOfLoad toldByLoad (LoadApplies codes s) (Some e)
+answered-first codes s e h = subst (FirstRefusal numberOfLoad toldByLoad (LoadApplies codes s)) h (load-law .first codes s)
+
 pub told-in-plan : (codes s : List ℕ) (e : LoadRefusal) → loadRefusal codes s ≡ Some e → ToldInPlan (length s) e
-told-in-plan codes s e h =
-    applies-in-plan codes s e (subst (FirstRefusal numberOfLoad toldByLoad (LoadApplies codes s)) h (load-first codes s) .0)
+told-in-plan codes s e h = applies-in-plan codes s e (answered-first codes s e h .0)
+
+-- the shape of few enough modules with all their codes is never at fault
+pub shape-right :
+    (codes s : List ℕ) (e : LoadRefusal) → length s ≤ 64 → length codes ≡ length s * length s → LoadApplies codes s e
+    → e ≢ WrongShape
+shape-right codes s e few full a same =
+    elim (subst (LoadApplies codes s) same a) [ inl many ↦ omega (arith, few, many) | inr other ↦ other full ]

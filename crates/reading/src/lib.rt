@@ -1,4 +1,5 @@
 // Reading two sheets into a representation: parsing them, and loading what they say.
+mod field;
 mod refused;
 mod whole;
 

@@ -4,6 +4,7 @@ ghost use mathlib.Core.Path.{_≡_};
 ghost use Rattle.reading.specs.PlanFaults.{letterFinding, placeFinding, planFinding};
 ghost use Rattle.reading.specs.Rows.{ToldInPlan, WellPlaced, rowStart};
 ghost use Rattle.sheets.specs.Parsing.{Tells};
+use crate::field::at_field;
 use plans::LoadRefusal;
 use sheets::Fault;
 use sheets::Sheet;
@@ -29,15 +30,7 @@ fn at_letter<'a>(
     requires inside { ⌜ i < modules ⌝ ∗ ⌜ j < modules ⌝ }
     ensures { λ r. ⌜ Tells (plan .entry) (letterFinding (now (plan .entry)) refusal i j) r ⌝ }
 {
-    let from = row_start(modules, i) + j;
-    let end = from + 1;
-    Fault {
-        wrong: Wrong::Refused(refusal),
-        sheet: Sheet::Plan,
-        line: i + 2,
-        column: j + 1,
-        field: &plan[from..end],
-    }
+    at_field(plan, refusal, i + 2, row_start(modules, i), j, 1)
 }
 
 // The fault at field k of the sequence.
@@ -46,15 +39,14 @@ fn at_place<'a>(plan: &'a [u8], modules: usize, refusal: LoadRefusal, k: usize) 
     requires inside { ⌜ k < modules ⌝ }
     ensures { λ r. ⌜ Tells (plan .entry) (placeFinding (now (plan .entry)) modules refusal k) r ⌝ }
 {
-    let from = row_start(modules, modules) + 4 * k;
-    let end = from + 4;
-    Fault {
-        wrong: Wrong::Refused(refusal),
-        sheet: Sheet::Plan,
-        line: modules + 2,
-        column: 4 * k + 1,
-        field: &plan[from..end],
-    }
+    at_field(
+        plan,
+        refusal,
+        modules + 2,
+        row_start(modules, modules),
+        4 * k,
+        4,
+    )
 }
 
 // The fault that tells where a load was refused.

@@ -1,6 +1,6 @@
 // Reading as a whole: the two sheets into the caller's lists and a representation.
 ghost use mathlib.Core.Path.{_≡_};
-ghost use Rattle.reading.specs.Outcome.{Answered, firstFault, meansAfter};
+ghost use Rattle.reading.specs.Outcome.{Answered, First-read, firstFault, meansAfter};
 ghost use Rattle.sheets.specs.Parsing.{Leaves, held};
 use crate::refused::refused;
 use lengths::Plain;
@@ -23,6 +23,7 @@ pub fn read<'a, R: Representation>(
     ensures answer { λ r. ⌜ Answered (sizes .entry) (plan .entry) (held (sides .entry) (codes .entry) (places .entry)) r ⌝ }
     ensures lists { λ _. ⌜ Leaves (now (sizes .entry)) (now (plan .entry)) (held (sides .entry) (codes .entry) (places .entry)) (held (sides .exit) (codes .exit) (places .exit)) ⌝ }
     ensures meaning { λ _. ⌜ R·Representation .means (now (representation .exit)) ≡ meansAfter (now (plan .entry)) (firstFault (now (sizes .entry)) (now (plan .entry)) (held (sides .entry) (codes .entry) (places .entry))) (R·Representation .means (now (representation .entry))) ⌝ }
+    ensures law { λ r. ⌜ First-read (sizes .entry) (plan .entry) (held (sides .entry) (codes .entry) (places .entry)) r ⌝ }
 {
     let parsed = parse(sizes, plan, sides, codes, places)?;
     let modules = parsed.modules;

@@ -1,13 +1,14 @@
 -- A fault of parsing, a refused load, or what the plan sheet says.
 use borrow.Author.Needs.{needs}
 use Prim.Native.Nat.{_*_, _≤_}
+use mathlib.Core.Logic.{inl}
 use lib.ListN.{length}
 use Rattle.std.proofs.shelf.Bits.{mul-le}
 use Rattle.std.proofs.shelf.Results.{err-from-errBy}
 use Rattle.sheets.specs.Checks.{first}
 use Rattle.sheets.specs.Parsing.{checksFor, held}
 use Rattle.reading.specs.Outcome.{loadFault}
-use Rattle.reading.proofs.AfterParsing.{Done, few, codes-end, places-end, placed, done-answered, done-means, refused-told, refused-answered, refused-means}
+use Rattle.reading.proofs.AfterParsing.{Done, few, codes-end, places-end, placed, done-answered, done-means, done-law, refused-told, refused-answered, refused-means, refused-law}
 use Rattle.reading.proofs.Outcomes.{parse-fault, parse-fault-keeps}
 use Rattle.reading.proofs.whole.read.Given as given
 use Rattle.reading.proofs.whole.read.Needs as need
@@ -23,6 +24,7 @@ returns-in-Break-parsed g c =
       answer = rw (p .1, p .2) (parse-fault (c .args .sizes) (c .args .plan) o (loadFault (c .args .plan .now)) fault answer);
       lists = c .in-Break-parsed .ensures tt .lists;
       meaning = parse-fault-keeps (c .args .sizes) (c .args .plan) o (loadFault (c .args .plan .now)) fault _ answer;
+      law = rw (p .1, p .2) (inl (c .in-Break-parsed .ensures tt .law));
     }
 
 -- what the parsing left, on every way behind it
@@ -69,6 +71,7 @@ returns-in-Ok g c =
       answer = done-answered d _ _ (c .in-Ok .ensures tt);
       lists = d .left;
       meaning = done-means d _ _ (c .in-Ok .ensures tt);
+      law = done-law d _ _ (c .in-Ok .ensures tt);
     }
 
 pub returns-in-Err : need.returns-in-Err
@@ -78,4 +81,5 @@ returns-in-Err g c =
       answer = refused-answered d _ _ (c .in-Err .refusal) (c .in-Err .ensures tt) (c .refused .result) (c .refused .ensures);
       lists = d .left;
       meaning = refused-means d _ _ (c .in-Err .refusal) (c .in-Err .ensures tt);
+      law = refused-law d _ _ (c .in-Err .refusal) (c .in-Err .ensures tt) (c .refused .result) (c .refused .ensures);
     }
