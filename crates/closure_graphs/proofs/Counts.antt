@@ -63,7 +63,14 @@ count-self (suc n) i h =
           rw (ne-eqb n i other) (omega (arith, ih))
     ]
 
+-- the modules below i stand at the places that count those before them
+abbrev pub Placed : ℕ → Table → ℕ → List ℕ → Type 0
+Placed m c i s = (length s ≡ 64) × ((j : ℕ) → j < i → getD s (countBefore m (edgeTo c) j) 0 ≡ j)
+
 module _ (m : ℕ) (c : Table) (law : FeasibleTable m c) where
+  abbrev place : ℕ → ℕ
+  place i = countBefore m (edgeTo c) i
+
   -- every module but i is before i or after it
   pub before-after :
       (i : ℕ) → i < m → countBefore m (edgeTo c) i + countBelow m (λ j. edgeTo c i j) + 1 ≡ m
@@ -112,25 +119,18 @@ module _ (m : ℕ) (c : Table) (law : FeasibleTable m c) where
             | inr less ↦ less
           ]
 
-  abbrev place : ℕ → ℕ
-  place i = countBefore m (edgeTo c) i
-
   counted : OrderedByCount m (edgeTo c)
   counted = ordered-by-count m (edgeTo c) (sequence-determined m c law .order)
 
   pub place-of : (i after : ℕ) → i < m → after ≡ countBelow m (λ j. edgeTo c i j) → (after < m) × (m - 1 - after ≡ place i)
   place-of i after h e = let all = before-after i h in (omega (arith, all, e), omega (arith, all, e))
 
-  -- the modules below i stand at their places
-  abbrev pub Placed : ℕ → List ℕ → Type 0
-  Placed i s = (length s ≡ 64) × ((j : ℕ) → j < i → getD s (place j) 0 ≡ j)
-
   place-once : (i j : ℕ) → i < m → j < m → place i ≡ place j → i ≡ j
   place-once i j h l e =
       sym (counted .placed i h .1) ∙ ap (λ k. getD (fitting m c) k 0) e ∙ counted .placed j l .1
 
   pub placed-more :
-      (i k : ℕ) (s : List ℕ) → i < m → k ≡ place i → Placed i s → Placed (i + 1) (set s k i)
+      (i k : ℕ) (s : List ℕ) → i < m → k ≡ place i → Placed m c i s → Placed m c (i + 1) (set s k i)
   placed-more i k s h e w = (
     length-set s k i ∙ w .0,
     λ j l.
@@ -145,7 +145,7 @@ module _ (m : ℕ) (c : Table) (law : FeasibleTable m c) where
         ],
   )
 
-  pub placed-all : (i : ℕ) (s : List ℕ) → m ≤ i → Placed i s → take m s ≡ fitting m c
+  pub placed-all : (i : ℕ) (s : List ℕ) → m ≤ i → Placed m c i s → take m s ≡ fitting m c
   placed-all i s all w =
       let few = law .few in
       let fits = sequence-determined m c law .fits in

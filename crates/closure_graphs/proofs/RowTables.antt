@@ -7,8 +7,11 @@ use mathlib.Core.Logic.{_⊎_, inl, inr, _≢_}
 use lib.Dec.{eqb, ltb}
 use Rattle.std.proofs.shelf.Tests.{cases-eq, eq-eqb, ne-eqb}
 use Rattle.std.proofs.shelf.Ways.{tells}
+use Rattle.graphs.specs.Edges.{edge}
+use Rattle.graphs.specs.declared.graph.Graph.{Graph}
 use Rattle.plans.specs.Changes.{withoutEdge, upTo, onFrom, reverseTable, moveTable, otherGraph}
 use Rattle.plans.specs.Tables.{Table}
+use Rattle.table_tests.specs.Tested.{Shows}
 use Rattle.closure_graphs.specs.RowChanges.{Edges, cutEdge, toward, onward, reverseAdds, reversedOwn, reversedOther, moveAdds, movedOwn, movedOther}
 
 -- the edges of a code
@@ -119,3 +122,33 @@ module _ (c : Table) (a b f : ℕ) (f-is : f ≡ otherGraph (c a b)) where
   moved-own g ne i j =
       ap (λ x. eqb (c i j) g && not x) (move-adds-is i j) ∙ lose-number (taken i j) (c i j) f g ne
       ∙ ap (λ n. eqb n g) (moved-is i j)
+
+-- the graphs show the table after a reverse, where they showed it before
+pub reverse-shown :
+    (c : Table) (a b f : ℕ) → 0 < c a b → 0 < f → f ≢ c a b → (own other own′ other′ : Graph) → Shows c (c a b) own
+    → Shows c f other → ((i j : ℕ) → edge own′ i j ≡ reversedOwn (edge own) a b i j)
+    → ((i j : ℕ) → edge other′ i j ≡ reversedOther (edge own) (edge other) a b i j)
+    → Shows (reverseTable c a b) (c a b) own′ × Shows (reverseTable c a b) f other′
+reverse-shown c a b f some some′ ne own other own′ other′ p q r s =
+    let e : edge own ≡ having c (c a b) = fun-ext (λ i. fun-ext (λ j. p i j)) in
+    let o : edge other ≡ having c f = fun-ext (λ i. fun-ext (λ j. q i j)) in (
+      λ i j. r i j ∙ ap (λ x. reversedOwn x a b i j) e ∙ reversed-own c a b some i j,
+      λ i j.
+          s i j ∙ ap (λ x. reversedOther x (edge other) a b i j) e ∙ ap (λ x. reversedOther (having c (c a b)) x a b i j) o
+          ∙ reversed-other c a b some f some′ ne i j,
+    )
+
+-- and after a move
+pub move-shown :
+    (c : Table) (a b f : ℕ) → f ≡ otherGraph (c a b) → f ≢ c a b → (own other own′ other′ : Graph) → Shows c (c a b) own
+    → Shows c f other → ((i j : ℕ) → edge own′ i j ≡ movedOwn (edge own) (edge other) a b i j)
+    → ((i j : ℕ) → edge other′ i j ≡ movedOther (edge other) a b i j)
+    → Shows (moveTable c a b) (c a b) own′ × Shows (moveTable c a b) f other′
+move-shown c a b f is ne own other own′ other′ p q r s =
+    let e : edge own ≡ having c (c a b) = fun-ext (λ i. fun-ext (λ j. p i j)) in
+    let o : edge other ≡ having c f = fun-ext (λ i. fun-ext (λ j. q i j)) in (
+      λ i j.
+          r i j ∙ ap (λ x. movedOwn x (edge other) a b i j) e ∙ ap (λ x. movedOwn (having c (c a b)) x a b i j) o
+          ∙ moved-own c a b f is (c a b) ne i j,
+      λ i j. s i j ∙ ap (λ x. movedOther x a b i j) o ∙ moved-other c a b f is i j,
+    )

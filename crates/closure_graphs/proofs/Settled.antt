@@ -49,7 +49,7 @@ shown-table c g h small shown =
 
 -- what the graphs of an invariant tell
 module _ (m : ℕ) (g h : Graph) (s : List ℕ) (few : m ≤ 64) (long : length s ≡ 64)
-  (ok : loadable (graphsPlan m g h s) ≡ true) where
+    (ok : loadable (graphsPlan m g h s) ≡ true) where
   pub length-of-places : length (take m s) ≡ m
   length-of-places = length-take-le m s (omega arith)
 

@@ -1,18 +1,23 @@
 // What a change does to the two graphs, one of which has the edge that is changed.
-ghost use mathlib.Core.List.{map};
 ghost use mathlib.Core.Path.{_≡_};
 ghost use Prim.Native.Nat.{ℕ, _<_};
 ghost use Rattle.closure_graphs.specs.RowChanges.{reversedOwn, reversedOther, movedOwn, movedOther};
 ghost use Rattle.closure_graphs.specs.Sound.{graphTable};
 ghost use Rattle.closure_graphs.specs.Shown.{Shown, codeOf};
 ghost use Rattle.graphs.specs.Edges.{edge};
-ghost use Rattle.plans.specs.Changes.{exchange, reverseTable, moveTable};
+ghost use Rattle.plans.specs.Changes.{reverseTable, moveTable};
 use crate::direction::Direction;
 use graphs::Graph;
 use module_set::ModuleSet;
 
 // Turns (a, b) round in the graph that has it, as a reverse does to the table of the two graphs.
-pub(crate) fn reverse_graphs(direction: Direction, right: &mut Graph, above: &mut Graph, a: usize, b: usize)
+pub(crate) fn reverse_graphs(
+    direction: Direction,
+    right: &mut Graph,
+    above: &mut Graph,
+    a: usize,
+    b: usize,
+)
     requires first { ⌜ a < 64 ⌝ }
     requires second { ⌜ b < 64 ⌝ }
     requires shown { ⌜ Shown (graphTable (now right) (now above)) (now right) (now above) ⌝ }
@@ -26,7 +31,13 @@ pub(crate) fn reverse_graphs(direction: Direction, right: &mut Graph, above: &mu
 }
 
 // Moves (a, b) out of the graph that has it, as a move does to the table of the two graphs.
-pub(crate) fn move_graphs(direction: Direction, right: &mut Graph, above: &mut Graph, a: usize, b: usize)
+pub(crate) fn move_graphs(
+    direction: Direction,
+    right: &mut Graph,
+    above: &mut Graph,
+    a: usize,
+    b: usize,
+)
     requires first { ⌜ a < 64 ⌝ }
     requires second { ⌜ b < 64 ⌝ }
     requires shown { ⌜ Shown (graphTable (now right) (now above)) (now right) (now above) ⌝ }
@@ -65,17 +76,4 @@ fn move_edges(own: &mut Graph, other: &mut Graph, a: usize, b: usize)
     let to = other.successors(b).with(b);
     other.connect(from, to);
     own.disconnect(from, to);
-}
-
-// Lets a and b take each other's place in a sequence.
-pub(crate) fn swap_entries(sequence: &mut [usize; 64], a: usize, b: usize)
-    ensures { λ _. ⌜ now (sequence .exit) ≡ map (exchange a b) (now (sequence .entry)) ⌝ }
-{
-    for k in 0..64 {
-        if sequence[k] == a {
-            sequence[k] = b;
-        } else if sequence[k] == b {
-            sequence[k] = a;
-        }
-    }
 }

@@ -4,10 +4,11 @@ ghost use Rattle.closure_graphs.specs.Meaning.{graphsMean, EdgeFound};
 ghost use Rattle.plans.specs.Tables.{noModules};
 use crate::changes::move_graphs;
 use crate::changes::reverse_graphs;
-use crate::changes::swap_entries;
 use crate::closure_graphs::ClosureGraphs;
 use crate::direction::Direction;
 use crate::fitting::fitting_sequence;
+use crate::places::put_sequence;
+use crate::places::swap_entries;
 use graphs::Graph;
 use plans::ChangeRefusal;
 use plans::LoadRefusal;
@@ -83,7 +84,7 @@ pub impl Representation for ClosureGraphs as GraphsRepresentation {
         self.size = sequence.len();
         self.right = tested.right;
         self.above = tested.above;
-        self.sequence[0..sequence.len()].copy_from_slice(sequence);
+        put_sequence(&mut self.sequence, sequence);
         Ok(())
     }
 
@@ -102,8 +103,11 @@ pub impl Representation for ClosureGraphs as GraphsRepresentation {
 
     fn reverse(&mut self, a: usize, b: usize) -> Result<(), ChangeRefusal> {
         let direction = self.reduction_edge(a, b)?;
-        reverse_graphs(direction, &mut self.right, &mut self.above, a, b);
-        self.sequence = fitting_sequence(self.size, &self.right, &self.above);
+        let (mut right, mut above) = (self.right, self.above);
+        reverse_graphs(direction, &mut right, &mut above, a, b);
+        self.sequence = fitting_sequence(self.size, &right, &above);
+        self.right = right;
+        self.above = above;
         Ok(())
     }
 

@@ -4,6 +4,7 @@ mod closure_graphs;
 mod direction;
 mod fitting;
 mod implementation;
+mod places;
 
 pub use closure_graphs::ClosureGraphs;
 pub use implementation::GraphsRepresentation;
