@@ -1,0 +1,123 @@
+// Rounds on a plan of 64 modules, eight columns of eight.
+use lengths::Plain;
+use packing::Placed;
+use packing::Sides;
+use plans::Change;
+use planner::Plan;
+use representations::Representation;
+
+// The table and the sequence of eight columns of eight modules.
+pub struct Grid {
+    codes: [u8; 4096],
+    sequence: [usize; 64],
+}
+
+impl Drop for Grid {
+    fn drop(self) {
+        let Grid { codes: _, sequence: _ } = self;
+    }
+}
+
+impl Grid {
+    pub fn new() -> Grid {
+        let mut codes = [0u8; 4096];
+        let mut sequence = [0usize; 64];
+        for k in 0..4096 {
+            let (i, j) = (k / 64, k % 64);
+            codes[k] = if i / 8 < j / 8 {
+                1
+            } else if i / 8 == j / 8 && i < j {
+                2
+            } else {
+                0
+            };
+        }
+        for k in 0..64 {
+            sequence[k] = k;
+        }
+        Grid { codes, sequence }
+    }
+}
+
+// An edge between neighbours in a column, another one each round.
+fn neighbours(round: usize) -> (usize, usize) {
+    let a = 8 * (round % 8) + round / 8 % 7;
+    (a, a + 1)
+}
+
+// Loads the grid, then in each round reverses or moves an edge and loads the grid again; how many changes and
+// loads were accepted.
+pub fn change_rounds<R: Representation>(r: &mut R, grid: &Grid, rounds: usize) -> usize {
+    let mut accepted = 0usize;
+    let _ = r.load(&grid.codes, &grid.sequence);
+    for round in 0..rounds {
+        let (a, b) = neighbours(round);
+        let changed = if round % 2 == 0 { r.reverse(a, b) } else { r.move_edge(a, b) };
+        if changed.is_ok() && r.load(&grid.codes, &grid.sequence).is_ok() {
+            accepted = accepted.saturating_add(1);
+        }
+    }
+    accepted
+}
+
+// Sides of 64 modules, none like its neighbour.
+fn some_sides() -> [Sides<Plain>; 64] {
+    let mut sides = [Sides { width: Plain(1), height: Plain(1) }; 64];
+    for k in 0..64u32 {
+        sides[k as usize] = Sides { width: Plain(10 + k * 7 % 50), height: Plain(20 + k * 11 % 40) };
+    }
+    sides
+}
+
+fn no_records() -> [Placed<Plain>; 64] {
+    let zero = Plain(0);
+    [Placed { left: zero, bottom: zero, right: zero, top: zero }; 64]
+}
+
+// Packs what is loaded; how often a chip was answered.
+pub fn pack_rounds<R: Representation>(r: &R, rounds: usize) -> usize {
+    let sides = some_sides();
+    let mut results = no_records();
+    let mut packed = 0usize;
+    for _ in 0..rounds {
+        if packing::pack(r, module_set::ModuleSet::empty(), &sides, &mut results).is_ok() {
+            packed = packed.saturating_add(1);
+        }
+    }
+    packed
+}
+
+// A change, a packing and an undo each round; how many rounds did all three.
+pub fn trial_rounds<R: Representation + Drop>(r: R, rounds: usize) -> usize {
+    let grid = Grid::new();
+    let sides = some_sides();
+    let mut results = no_records();
+    let mut plan = Plan::new(r);
+    let _ = plan.load(&grid.codes, &grid.sequence);
+    let mut done = 0usize;
+    for round in 0..rounds {
+        done = done.saturating_add(one_trial(&mut plan, round, &sides, &mut results));
+    }
+    done
+}
+
+// One round: 1 where all three calls were done.
+fn one_trial<R: Representation>(
+    plan: &mut Plan<R>,
+    round: usize,
+    sides: &[Sides<Plain>],
+    results: &mut [Placed<Plain>],
+) -> usize {
+    let (a, b) = neighbours(round);
+    let change = if round % 2 == 0 { Change::Reverse(a, b) } else { Change::MoveEdge(a, b) };
+    match plan.change(change) {
+        Err(_) => 0,
+        Ok(decision) => {
+            let packed = plan.pack(sides, results).is_ok();
+            match plan.undo(decision) {
+                Ok(()) => usize::from(packed),
+                Err(_) => unreachable(),
+            }
+        }
+    }
+}
