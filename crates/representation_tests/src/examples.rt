@@ -56,29 +56,49 @@ pub fn refused_changes<R: Representation>(r: &mut R) -> bool {
 // A swap, a reverse that takes a module along, and a move that does.
 pub fn changes<R: Representation>(r: &mut R) -> bool {
     let swap = load_number(r.load(&CODES, &[0, 1, 2])) == 0 && change_number(r.swap(0, 2)) == 0;
-    let swapped = r.code(2, 1) == 1 && r.code(2, 0) == 2 && r.code(1, 0) == 2 && r.module_at(0) == Some(2);
+    let swapped = r.code(2, 1) == 1
+        && r.code(2, 0) == 2
+        && r.code(1, 0) == 2
+        && r.module_at(0) == Some(2);
     let reverse = load_number(r.load(&[0, 1, 2, 0, 0, 0, 0, 1, 0], &[0, 2, 1])) == 0
         && change_number(r.reverse(0, 1)) == 0;
-    let reversed = r.code(1, 0) == 1 && r.code(2, 1) == 1 && r.code(2, 0) == 1 && r.module_at(2) == Some(0);
+    let reversed = r.code(1, 0) == 1
+        && r.code(2, 1) == 1
+        && r.code(2, 0) == 1
+        && r.module_at(2) == Some(0);
     let moving = load_number(r.load(&[0, 1, 0, 0, 0, 0, 2, 1, 0], &[2, 0, 1])) == 0
         && change_number(r.move_edge(0, 1)) == 0;
-    let moved = r.code(0, 1) == 2 && r.code(2, 1) == 2 && r.code(2, 0) == 2 && r.module_at(0) == Some(2);
+    let moved = r.code(0, 1) == 2
+        && r.code(2, 1) == 2
+        && r.code(2, 0) == 2
+        && r.module_at(0) == Some(2);
     swap && swapped && reverse && reversed && moving && moved
 }
 
-// 64 modules in one row, and 65.
-pub fn largest<R: Representation>(r: &mut R) -> bool {
+// The codes of 64 modules in one row.
+fn row_codes() -> [u8; 4096] {
     let mut codes = [0u8; 4096];
-    let mut sequence = [0usize; 64];
     for k in 0..4096 {
         if k / 64 < k % 64 {
             codes[k] = 1;
         }
     }
+    codes
+}
+
+// Each module at its own place.
+fn row_sequence() -> [usize; 64] {
+    let mut sequence = [0usize; 64];
     for k in 0..64 {
         sequence[k] = k;
     }
-    let row = load_number(r.load(&codes, &sequence)) == 0 && r.modules() == 64 && r.code(0, 63) == 1;
+    sequence
+}
+
+// 64 modules in one row, and 65.
+pub fn largest<R: Representation>(r: &mut R) -> bool {
+    let row = load_number(r.load(&row_codes(), &row_sequence())) == 0;
+    let whole = r.modules() == 64 && r.code(0, 63) == 1;
     let turned = change_number(r.reverse(62, 63)) == 0 && r.module_at(63) == Some(62);
-    row && turned && load_number(r.load(&[0; 4225], &[0; 65])) == 10 && r.code(63, 62) == 1
+    row && whole && turned && load_number(r.load(&[0; 4225], &[0; 65])) == 10 && r.code(63, 62) == 1
 }

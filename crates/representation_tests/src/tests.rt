@@ -5,9 +5,12 @@ use crate::examples::refused_changes;
 use crate::examples::refused_loads;
 use crate::examples::smallest;
 use closure_graphs::ClosureGraphs;
+use closure_graphs::GraphsRepresentation;
 use representations::Representation;
 use representations::Transposed;
+use representations::TransposedRepresentation;
 use sequence_pairs::SequencePair;
+use sequence_pairs::SequencePairRepresentation;
 use std::test::*;
 
 fn all<R: Representation>(r: &mut R) -> bool {

@@ -1,42 +1,33 @@
 // Rounds on a plan of 64 modules, eight columns of eight.
 use lengths::Plain;
+use lengths::PlainLength;
 use packing::Placed;
 use packing::Sides;
-use plans::Change;
 use planner::Plan;
+use plans::Change;
 use representations::Representation;
 
-// The table and the sequence of eight columns of eight modules.
-pub struct Grid {
-    codes: [u8; 4096],
-    sequence: [usize; 64],
+// The table of eight columns of eight modules.
+pub fn grid_codes() -> [u8; 4096] {
+    let mut codes = [0u8; 4096];
+    for k in 0..4096 {
+        let (i, j) = (k / 64, k % 64);
+        if i / 8 < j / 8 {
+            codes[k] = 1;
+        } else if i / 8 == j / 8 && i < j {
+            codes[k] = 2;
+        }
+    }
+    codes
 }
 
-impl Drop for Grid {
-    fn drop(self) {
-        let Grid { codes: _, sequence: _ } = self;
+// Its sequence: column after column, each from below.
+pub fn grid_sequence() -> [usize; 64] {
+    let mut sequence = [0usize; 64];
+    for k in 0..64 {
+        sequence[k] = k;
     }
-}
-
-impl Grid {
-    pub fn new() -> Grid {
-        let mut codes = [0u8; 4096];
-        let mut sequence = [0usize; 64];
-        for k in 0..4096 {
-            let (i, j) = (k / 64, k % 64);
-            codes[k] = if i / 8 < j / 8 {
-                1
-            } else if i / 8 == j / 8 && i < j {
-                2
-            } else {
-                0
-            };
-        }
-        for k in 0..64 {
-            sequence[k] = k;
-        }
-        Grid { codes, sequence }
-    }
+    sequence
 }
 
 // An edge between neighbours in a column, another one each round.
@@ -47,13 +38,19 @@ fn neighbours(round: usize) -> (usize, usize) {
 
 // Loads the grid, then in each round reverses or moves an edge and loads the grid again; how many changes and
 // loads were accepted.
-pub fn change_rounds<R: Representation>(r: &mut R, grid: &Grid, rounds: usize) -> usize {
+pub fn change_rounds<R: Representation>(r: &mut R, rounds: usize) -> usize {
+    let codes = grid_codes();
+    let sequence = grid_sequence();
     let mut accepted = 0usize;
-    let _ = r.load(&grid.codes, &grid.sequence);
+    let _ = r.load(&codes, &sequence);
     for round in 0..rounds {
         let (a, b) = neighbours(round);
-        let changed = if round % 2 == 0 { r.reverse(a, b) } else { r.move_edge(a, b) };
-        if changed.is_ok() && r.load(&grid.codes, &grid.sequence).is_ok() {
+        let changed = if round % 2 == 0 {
+            r.reverse(a, b)
+        } else {
+            r.move_edge(a, b)
+        };
+        if changed.is_ok() && r.load(&codes, &sequence).is_ok() {
             accepted = accepted.saturating_add(1);
         }
     }
@@ -62,16 +59,27 @@ pub fn change_rounds<R: Representation>(r: &mut R, grid: &Grid, rounds: usize) -
 
 // Sides of 64 modules, none like its neighbour.
 fn some_sides() -> [Sides<Plain>; 64] {
-    let mut sides = [Sides { width: Plain(1), height: Plain(1) }; 64];
+    let mut sides = [Sides {
+        width: Plain(1),
+        height: Plain(1),
+    }; 64];
     for k in 0..64u32 {
-        sides[k as usize] = Sides { width: Plain(10 + k * 7 % 50), height: Plain(20 + k * 11 % 40) };
+        sides[k as usize] = Sides {
+            width: Plain(10 + k * 7 % 50),
+            height: Plain(20 + k * 11 % 40),
+        };
     }
     sides
 }
 
 fn no_records() -> [Placed<Plain>; 64] {
     let zero = Plain(0);
-    [Placed { left: zero, bottom: zero, right: zero, top: zero }; 64]
+    [Placed {
+        left: zero,
+        bottom: zero,
+        right: zero,
+        top: zero,
+    }; 64]
 }
 
 // Packs what is loaded; how often a chip was answered.
@@ -89,11 +97,10 @@ pub fn pack_rounds<R: Representation>(r: &R, rounds: usize) -> usize {
 
 // A change, a packing and an undo each round; how many rounds did all three.
 pub fn trial_rounds<R: Representation + Drop>(r: R, rounds: usize) -> usize {
-    let grid = Grid::new();
     let sides = some_sides();
     let mut results = no_records();
     let mut plan = Plan::new(r);
-    let _ = plan.load(&grid.codes, &grid.sequence);
+    let _ = plan.load(&grid_codes(), &grid_sequence());
     let mut done = 0usize;
     for round in 0..rounds {
         done = done.saturating_add(one_trial(&mut plan, round, &sides, &mut results));
@@ -109,7 +116,11 @@ fn one_trial<R: Representation>(
     results: &mut [Placed<Plain>],
 ) -> usize {
     let (a, b) = neighbours(round);
-    let change = if round % 2 == 0 { Change::Reverse(a, b) } else { Change::MoveEdge(a, b) };
+    let change = if round % 2 == 0 {
+        Change::Reverse(a, b)
+    } else {
+        Change::MoveEdge(a, b)
+    };
     match plan.change(change) {
         Err(_) => 0,
         Ok(decision) => {
