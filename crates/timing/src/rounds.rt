@@ -1,6 +1,7 @@
 // Rounds on a plan of 64 modules, eight columns of eight.
 use lengths::Plain;
 use lengths::PlainLength;
+use module_set::ModuleSet;
 use packing::Placed;
 use packing::Sides;
 use planner::Plan;
@@ -84,11 +85,18 @@ fn no_records() -> [Placed<Plain>; 64] {
 
 // Packs what is loaded; how often a chip was answered.
 pub fn pack_rounds<R: Representation>(r: &R, rounds: usize) -> usize {
-    let sides = some_sides();
-    let mut results = no_records();
+    packings(r, &some_sides(), &mut no_records(), rounds)
+}
+
+fn packings<R: Representation>(
+    r: &R,
+    sides: &[Sides<Plain>],
+    results: &mut [Placed<Plain>],
+    rounds: usize,
+) -> usize {
     let mut packed = 0usize;
     for _ in 0..rounds {
-        if packing::pack(r, module_set::ModuleSet::empty(), &sides, &mut results).is_ok() {
+        if packing::pack(r, ModuleSet::empty(), sides, results).is_ok() {
             packed = packed.saturating_add(1);
         }
     }
@@ -97,13 +105,20 @@ pub fn pack_rounds<R: Representation>(r: &R, rounds: usize) -> usize {
 
 // A change, a packing and an undo each round; how many rounds did all three.
 pub fn trial_rounds<R: Representation + Drop>(r: R, rounds: usize) -> usize {
-    let sides = some_sides();
-    let mut results = no_records();
     let mut plan = Plan::new(r);
     let _ = plan.load(&grid_codes(), &grid_sequence());
+    trials(&mut plan, &some_sides(), &mut no_records(), rounds)
+}
+
+fn trials<R: Representation>(
+    plan: &mut Plan<R>,
+    sides: &[Sides<Plain>],
+    results: &mut [Placed<Plain>],
+    rounds: usize,
+) -> usize {
     let mut done = 0usize;
     for round in 0..rounds {
-        done = done.saturating_add(one_trial(&mut plan, round, &sides, &mut results));
+        done = done.saturating_add(one_trial(plan, round, sides, results));
     }
     done
 }
