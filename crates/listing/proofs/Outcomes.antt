@@ -2,7 +2,8 @@
 use Prim.Native.Nat.{ℕ}
 use Rattle.listing.specs.Line.{wordLine}
 use Rattle.sheets.specs.Lines.{part}
-use Rattle.listing.specs.Listed.{faultLine, headLine, outcome, wordOf}
+use Rattle.listing.specs.FaultLine.{faultLine}
+use Rattle.listing.specs.Listed.{headLine, outcome, wordOf}
 use Rattle.sheets.specs.Parsing.{Answers-by}
 use Rattle.sheets.specs.Reading.{modulesOf}
 use Rattle.sheets.specs.Words.{headWord}

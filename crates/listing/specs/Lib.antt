@@ -2,4 +2,10 @@
 pub mod Decimal
 pub mod Padded
 pub mod Line
+pub mod FaultLine
+pub mod PackLines
+pub mod CommandLines
+pub mod ScriptLines
+pub mod Whole
+pub mod WorkedListing
 pub mod Listed

@@ -1,14 +1,12 @@
 -- The listing of two sheets: which bytes.
 use Prim.Native.Nat.{ℕ}
 use Rattle.sheets.specs.Checks.{first}
-use Rattle.sheets.specs.Faults.{numberOf, sheetNumber}
-use Rattle.listing.specs.Line.{failLine, wordLine}
+use Rattle.listing.specs.FaultLine.{findingLine}
+use Rattle.listing.specs.Line.{wordLine}
 use Rattle.sheets.specs.Lines.{part}
 use Rattle.sheets.specs.Reading.{allChecks, modulesOf}
 use Rattle.sheets.specs.Words.{headWord}
 use Rattle.sheets.specs.declared.fault.Finding.{Finding}
-use Rattle.sheets.specs.declared.fault.Sheet.{Sheet}
-use Rattle.sheets.specs.declared.fault.Wrong.{Wrong}
 use Rattle.sheets.specs.declared.parsed.Head.{Head}
 use Rattle.sheets.specs.declared.parsed.Head.the-variants as heads
 use Rattle.std.specs.declared.option.Option.{Option}
@@ -26,13 +24,9 @@ abbrev pub headLine : Option Head → ℕ → List ℕ
 headLine (Some head) m = wordLine (wordOf head) m
 headLine None m = []
 
--- The line of a fault: its number, that of its sheet, line and column.
-abbrev pub faultLine : Wrong → Sheet → ℕ → ℕ → List ℕ
-faultLine wrong sheet line column = failLine (numberOf wrong) (sheetNumber sheet) line column
-
 -- The line of a fault, or else that of the head.
 abbrev pub outcome : Option Finding → Option Head → ℕ → List ℕ
-outcome (Some f) head m = faultLine (f .wrong) (f .sheet) (f .line) (f .column)
+outcome (Some f) head m = findingLine f
 outcome None head m = headLine head m
 
 -- The listing of a sizes sheet and a plan sheet; the lists have room for 64 sides, 4,096 codes and 64 places.

@@ -4,5 +4,7 @@ mod lines;
 #[cfg(test)]
 mod tests;
 mod whole;
+mod worked;
 
 pub use whole::listing;
+pub use worked::worked_listings;

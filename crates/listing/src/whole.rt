@@ -1,5 +1,6 @@
 // The whole listing of a task.
-ghost use Rattle.listing.specs.Listed.{faultLine, listingOf, wordOf};
+ghost use Rattle.listing.specs.FaultLine.{faultLine};
+ghost use Rattle.listing.specs.Listed.{listingOf, wordOf};
 ghost use Rattle.std.specs.Of.Vec.{vec-items};
 ghost use Rattle.std.specs.Vec.{made};
 ghost use mathlib.Core.List.{_++_};
