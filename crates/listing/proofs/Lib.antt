@@ -2,3 +2,4 @@
 pub mod Spelled
 pub mod ReadBack
 pub mod Outcomes
+pub mod Records

@@ -1,6 +1,7 @@
 // The listing of a task as bytes.
 mod columns;
 mod lines;
+mod packed;
 #[cfg(test)]
 mod tests;
 mod whole;

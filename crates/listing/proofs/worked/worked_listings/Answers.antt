@@ -6,4 +6,12 @@ use mathlib.Core.Path.{refl}
 
 pub returns : need.returns
 unfolding wholeListing lastDigits inDecimal
-returns c = record { moved = refl }
+returns c = record {
+  moved = refl;
+  turned = refl;
+  stopped = refl;
+  unended = refl;
+  against = refl;
+  twice = refl;
+  none = refl;
+}
