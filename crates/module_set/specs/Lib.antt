@@ -1,0 +1,2 @@
+-- What sets of modules are promised by.
+pub mod Members

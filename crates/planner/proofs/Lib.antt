@@ -1,0 +1,3 @@
+-- Lemmas of the plan.
+pub mod Notes
+pub mod ModelSteps
