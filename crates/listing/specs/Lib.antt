@@ -5,6 +5,7 @@ pub mod Line
 pub mod FaultLine
 pub mod PackLines
 pub mod CommandLines
+pub mod Deciding
 pub mod ScriptLines
 pub mod Whole
 pub mod WorkedListing

@@ -1,5 +1,6 @@
 // The listing of a task as bytes.
 mod columns;
+mod deciding;
 mod lines;
 mod packed;
 #[cfg(test)]
