@@ -95,7 +95,7 @@ least-none s = settle (firstBelow 64 (member s)) (first-tells (member s) 64)
     settle None f = rw (none-from 64 (member s) f) refl
 
 -- tests with the same answers below a bound find some or none together
-some-same : (n : ℕ) (p q : ℕ → Bool) → ((k : ℕ) → p k ≡ q k) → someBelow n p ≡ someBelow n q
+pub some-same : (n : ℕ) (p q : ℕ → Bool) → ((k : ℕ) → p k ≡ q k) → someBelow n p ≡ someBelow n q
 some-same n p q same =
     elim (some-tells n p) [
       | inl r ↦ r .0 ∙ sym (some-from n q (r .1 .0) (r .1 .1) (sym (same (r .1 .0)) ∙ r .1 .2))

@@ -3,6 +3,7 @@ mod asking;
 mod decision;
 mod noted;
 mod noting;
+mod packings;
 mod plan;
 mod trials;
 

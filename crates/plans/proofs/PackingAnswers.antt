@@ -31,7 +31,7 @@ use Rattle.plans.specs.declared.pack_refusals.PinnedRefusal.the-variants.{Pack
 
 module _ {L : Type 0} (K : Kind L) where
   -- a call that answers a chip was not refused
-  answered-not-refused :
+  pub answered-not-refused :
       {E : Type 0} (r : Option E) (results : List (Placed L)) (o : Outcome L E) (chip : Chip L)
       → refusedOr K r results o .answer ≡ Ok chip → (r ≡ None) × (refusedOr K r results o ≡ o)
   answered-not-refused (Some e) results o chip h = let z : _≡_ {A = ℕ} 0 1 = cc in absurd (omega arith)
@@ -39,7 +39,7 @@ module _ {L : Type 0} (K : Kind L) where
 
   module _ (t : Task L) where
     -- the list of a packing shows its near and far edges
-    list-shows :
+    pub list-shows :
         (pins : Pins L) (results : List (Placed L)) → t .plan .size ≤ length results
         → ShowsPlacement K t (packedPlacement K t pins) results (packedList K t pins results)
     list-shows pins results room =

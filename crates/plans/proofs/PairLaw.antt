@@ -72,7 +72,7 @@ module _ (m : ℕ) (c : Table) (law : FeasibleTable m c) where
       let ne : i ≢ k = λ same. grind arith in
       elim (before-one i k h l ne) [ inl g ↦ g | inr g ↦ absurd (before-round i j k e f g) ]
 
-  other-order : TotalOrder m (otherBefore c)
+  pub other-order : TotalOrder m (otherBefore c)
   other-order =
       record {
         strict = λ i h. let e = law .apart i in grind (arith, tells);

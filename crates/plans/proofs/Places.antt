@@ -77,3 +77,11 @@ times-once (y ∷ ys) x h =
           grind (arith, tells)
       | inr other ↦ grind (arith, tells)
     ]
+
+-- what stands nowhere has the length for its place
+pub place-none : (s : List ℕ) (x : ℕ) → ((k : ℕ) → k < length s → getD s k 0 ≢ x) → placeOf s x ≡ length s
+place-none [] x h = refl
+place-none (y ∷ ys) x h =
+    let e = h 0 (omega arith) in
+    let ih = place-none ys x (λ k g. h (suc k) (omega arith)) in
+    grind (arith, tells)

@@ -2,9 +2,9 @@
 use Prim.Native.Nat.{ℕ, _*_, _≤_, _<_}
 use native.Mathlib.Omega.{arith}
 use mathlib.Core.Path.{_≡_, refl, sym, _∙_, ap, subst}
-use mathlib.Core.Bool.{Bool, true, false, not, _||_}
+use mathlib.Core.Bool.{true, not}
 use mathlib.Core.List.{List, map}
-use mathlib.Core.Logic.{_⊎_, inl, inr}
+use mathlib.Core.Logic.{inl, inr}
 use lib.Dec.{eqb, ltb}
 use lib.ListN.{length, getD, take}
 use Rattle.std.proofs.shelf.Bits.{mul-le}
@@ -14,16 +14,15 @@ use Rattle.std.specs.declared.result.Result.{Result}
 use Rattle.std.specs.declared.result.Result.the-variants.{Ok, Err}
 use Rattle.plans.proofs.TransposeLaw.{transpose-law}
 use Rattle.plans.proofs.Transposing.{map-twice}
-use Rattle.plans.specs.Changes.{Follows, after-load, after-change, unless}
-use Rattle.plans.specs.Search.{orElse, refusing, firstPair}
-use Rattle.plans.specs.Tables.{Floorplan, tableOf}
-use Rattle.plans.specs.Tests.{misshapen, codeWrong, selfRelated, notOneEdge, notClosed, tellingPair, sequenceRefusal, loadRefusal}
+use Rattle.plans.specs.Changes.{Follows, after-load, after-change}
+use Rattle.plans.specs.Tables.{Floorplan}
+use Rattle.plans.specs.Tests.{misshapen}
 use Rattle.plans.specs.TransposeLaw.{transposeMade}
 use Rattle.plans.specs.Transposed.{otherCode, transpose}
 use Rattle.plans.specs.declared.change.Change.{Change}
 use Rattle.plans.specs.declared.refusals.ChangeRefusal.{ChangeRefusal}
 use Rattle.plans.specs.declared.refusals.LoadRefusal.{LoadRefusal}
-use Rattle.plans.specs.declared.refusals.LoadRefusal.the-variants.{WrongShape, WrongCode, SelfRelated, NotOneEdge, NotClosed}
+use Rattle.plans.specs.declared.refusals.LoadRefusal.the-variants.{WrongShape}
 
 -- an answer below follows the made floorplan exchanged, above
 follows-made :

@@ -1,0 +1,2 @@
+-- What graphs on modules are promised by.
+pub mod Edges

@@ -1,0 +1,2 @@
+-- What the loops of the tests share.
+pub mod Loops

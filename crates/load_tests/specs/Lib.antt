@@ -1,0 +1,3 @@
+-- What the loops of the tests are proved against.
+pub mod Repeats
+pub mod Failing

@@ -1,0 +1,6 @@
+// The tests of a table of codes and its sequence, by simple loops.
+mod pairs;
+mod places;
+mod refusal;
+
+pub use refusal::load_refusal;

@@ -1,0 +1,2 @@
+-- What the tests of a load answer.
+pub mod Codes
