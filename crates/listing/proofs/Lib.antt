@@ -3,3 +3,5 @@ pub mod Spelled
 pub mod ReadBack
 pub mod Outcomes
 pub mod Records
+pub mod Packings
+pub mod ScriptSteps

@@ -1,8 +1,11 @@
 // The listing of a task as bytes.
 mod columns;
 mod deciding;
+mod fault;
 mod lines;
+mod pack;
 mod packed;
+mod script;
 #[cfg(test)]
 mod tests;
 mod whole;

@@ -1,15 +1,12 @@
 // The whole listing of a task.
-ghost use Rattle.listing.specs.FaultLine.{faultLine};
 ghost use Rattle.listing.specs.Listed.{listingOf, wordOf};
 ghost use Rattle.std.specs.Of.Vec.{vec-items};
 ghost use Rattle.std.specs.Vec.{made};
-ghost use mathlib.Core.List.{_++_};
 ghost use mathlib.Core.Path.{_≡_};
+use crate::fault::append_fault;
 use crate::lines::append_answer;
-use crate::lines::append_fail;
 use lengths::Plain;
 use lengths::Sides;
-use sheets::Fault;
 use sheets::Head;
 use sheets::parse;
 use std::alloc::AllocError;
@@ -32,19 +29,6 @@ pub fn listing<'a>(heap: Global, sizes: &'a [u8], plan: &'a [u8]) -> Result<Vec<
         Err(fault) => append_fault(&mut out, fault)?,
     }
     Ok(out)
-}
-
-// Appends the line of a fault that the reading answered.
-fn append_fault(out: &mut Vec<u8>, fault: Fault<'_>) -> Result<(), AllocError>
-    ensures { λ r. ⌜ made r (λ _. vec-items (now (out .exit)) ≡ vec-items (now (out .entry)) ++ faultLine (fault .entry .wrong) (fault .entry .sheet) (fault .entry .line) (fault .entry .column)) ⌝ }
-{
-    append_fail(
-        out,
-        fault.wrong.number() as u64,
-        fault.sheet.number() as u64,
-        fault.line as u64,
-        fault.column as u64,
-    )
 }
 
 // How the head's word is written.

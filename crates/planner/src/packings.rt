@@ -14,7 +14,11 @@ use representations::Representation;
 
 impl<R: Representation> Plan<R> {
     // Packs the modules and writes a record of each into the list; answers the chip.
-    pub fn pack<L: Length>(&self, sides: &[Sides<L>], results: &mut [Placed<L>]) -> Result<Chip<L>, PackRefusal>
+    pub fn pack<L: Length>(
+        &self,
+        sides: &[Sides<L>],
+        results: &mut [Placed<L>],
+    ) -> Result<Chip<L>, PackRefusal>
         ensures outcome { λ r. ⌜ Packs (L·Length .kind) (taskAt (stateOf (R·Representation .means) (now (self .entry))) (now (sides .entry))) (now (results .entry)) r (now (results .exit)) ⌝ }
         ensures least { λ r. ⌜ ShowsPacking (L·Length .kind) (taskAt (stateOf (R·Representation .means) (now (self .entry))) (now (sides .entry))) (now (results .entry)) r (now (results .exit)) ⌝ }
     {

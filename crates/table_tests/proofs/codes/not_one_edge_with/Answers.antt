@@ -43,7 +43,7 @@ returns-then-there-back c =
     sym (first-is (notOneEdge (tableOf (c .args .m) (c .args .codes .now)) (c .args .i)) (c .args .m) (Some (c .loop-j .j)) (
       c .loop-j-test .taken,
       pair-at (c .args .m) (c .args .codes .now) (c .args .i) (c .pre .1) (c .loop-j .j) (omega arith) (c .loop-j-test .taken)
-      ∙ c .if-there-back .taken,
+          ∙ c .if-there-back .taken,
       c .loop-j .inv,
     ))
 
