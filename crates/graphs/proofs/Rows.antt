@@ -122,11 +122,11 @@ no-rows x none i j =
     ]
 
 -- all that pass are found
-pub found-all : (t : ℕ → Bool) (n k : ℕ) → 64 ≤ n → (64 ≤ k → t k ≡ false) → (ltb k n && t k) ≡ t k
-found-all t n k h beyond =
+pub found-all : (t : ℕ → Bool) (n k : ℕ) → (n ≤ k → t k ≡ false) → (ltb k n && t k) ≡ t k
+found-all t n k beyond =
     elim (cases-lt k n) [
       | inl l ↦ rw (lt-ltb k n l) refl
-      | inr l ↦ rw (le-ltb k n l) (sym (beyond (omega arith)))
+      | inr l ↦ rw (le-ltb k n l) (sym (beyond l))
     ]
 
 -- whether a member of the first set below n has k in its row

@@ -95,7 +95,8 @@ impl SequencePair {
         let mut codes = [0; 4096];
         self.write_changed(change, &mut codes);
         let count = self.count;
-        *self = from_table(&codes[0..count * count], count);
+        let made = from_table(&codes[0..count * count], count);
+        *self = made;
         Ok(())
     }
 }

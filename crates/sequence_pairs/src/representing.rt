@@ -2,11 +2,11 @@
 ghost use Rattle.sequence_pairs.specs.Meaning.{meant};
 use crate::counting::from_table;
 use crate::pair::SequencePair;
-use load_tests::load_refusal;
 use plans::Change;
 use plans::ChangeRefusal;
 use plans::LoadRefusal;
 use representations::Representation;
+use table_tests::tested_graphs;
 
 pub impl Representation for SequencePair as SequencePairRepresentation {
     ghost means = { meant };
@@ -28,10 +28,9 @@ pub impl Representation for SequencePair as SequencePairRepresentation {
     }
 
     fn load(&mut self, codes: &[u8], sequence: &[usize]) -> Result<(), LoadRefusal> {
-        if let Some(refusal) = load_refusal(codes, sequence) {
-            return Err(refusal);
-        }
-        *self = from_table(codes, sequence.len());
+        let _graphs = tested_graphs(codes, sequence)?;
+        let loaded = from_table(codes, sequence.len());
+        *self = loaded;
         Ok(())
     }
 

@@ -68,11 +68,14 @@ abbrev pub head-on : List ℕ → List ℕ → List Check
 head-on sizes plan = headChecks plan ++ sizes-on sizes plan
 
 -- a fault of each part of the two sheets, behind the parts that passed
-pub head-fault : (sizes plan : List ℕ) (f : Finding) → None ≡ first (lengthChecks sizes plan) → first (headChecks plan) ≡ Some f → first (sheetChecks sizes plan) ≡ Some f
-head-fault sizes plan f l e = rest-fault (lengthChecks sizes plan) (head-on sizes plan) f (sym l) (first-front (headChecks plan) (sizes-on sizes plan) f e)
+pub length-fault : (sizes plan : List ℕ) (f : Finding) → first (lengthChecks sizes plan) ≡ Some f → first (sheetChecks sizes plan) ≡ Some f
+length-fault sizes plan f e = first-front (lengthChecks sizes plan) (head-on sizes plan) f e
 
-pub head-passed : (sizes plan : List ℕ) → None ≡ first (lengthChecks sizes plan) → first (headChecks plan) ≡ None → first (sheetChecks sizes plan) ≡ first (sizes-on sizes plan)
-head-passed sizes plan l h = first-rest (lengthChecks sizes plan) (head-on sizes plan) (sym l) ∙ first-rest (headChecks plan) (sizes-on sizes plan) h
+pub head-fault : (sizes plan : List ℕ) (f : Finding) → first (lengthChecks sizes plan) ≡ None → first (headChecks plan) ≡ Some f → first (sheetChecks sizes plan) ≡ Some f
+head-fault sizes plan f l e = rest-fault (lengthChecks sizes plan) (head-on sizes plan) f l (first-front (headChecks plan) (sizes-on sizes plan) f e)
+
+pub head-passed : (sizes plan : List ℕ) → first (lengthChecks sizes plan) ≡ None → first (headChecks plan) ≡ None → first (sheetChecks sizes plan) ≡ first (sizes-on sizes plan)
+head-passed sizes plan l h = first-rest (lengthChecks sizes plan) (head-on sizes plan) l ∙ first-rest (headChecks plan) (sizes-on sizes plan) h
 
 pub sizes-fault : (sizes plan : List ℕ) (m : ℕ) (f : Finding) → m ≡ modulesOf plan → first (sizesChecks sizes m) ≡ Some f → first (sizes-on sizes plan) ≡ Some f
 sizes-fault sizes plan m f e h = first-front (sizesChecks sizes (modulesOf plan)) (rows-on plan) f (ap (λ x. first (sizesChecks sizes x)) (sym e) ∙ h)

@@ -22,7 +22,7 @@ use Rattle.sheets.specs.Checks.{Check, first, Stands-first, None-applies}
 use Rattle.sheets.specs.Faults.{clears}
 use Rattle.sheets.specs.Lines.{lineStart, part}
 use Rattle.sheets.specs.Lists.{Filled, Cleared, sidesOf, sidesRead}
-use Rattle.sheets.specs.Reading.{modulesOf, codeRead, placeRead, sheetChecks, allChecks}
+use Rattle.sheets.specs.Reading.{modulesOf, codeRead, placeRead, lengthChecks, sheetChecks, allChecks}
 use Rattle.sheets.specs.Words.{headWord}
 
 -- of two things, that of the sheet that is named
@@ -98,8 +98,17 @@ abbrev pub First-of : RefT (List ℕ) → RefT (List ℕ) → Held → Result Pa
 First-of sizes plan h (Ok p) = None-applies (checksFor (now sizes) (now plan) h)
 First-of sizes plan h (Err e) = (f : Finding) × Stands-first (checksFor (now sizes) (now plan) h) f × Tells (ofSheet sizes plan (f .sheet)) f e
 
--- reading into lists of zeros: the first fault, whose field lies in its sheet, or what was read
+-- a fault of the two sheets: the first of these checks that applies; its field lies in its sheet, and it clears the lists
+abbrev pub Found : List ℕ → List ℕ → List Check → Finding → Type 0
+Found sizes plan cs f =
+    (first cs ≡ Some f) × (f .from + f .width ≤ length (ofSheet sizes plan (f .sheet))) × (clears (f .wrong) ≡ true)
+
+-- the bytes of the two sheets: the first fault, or none
+abbrev pub Reads-lengths : List ℕ → List ℕ → Result (Unit {0}) Finding → Type 0
+Reads-lengths sizes plan (Ok x) = first (lengthChecks sizes plan) ≡ None
+Reads-lengths sizes plan (Err f) = Found sizes plan (lengthChecks sizes plan) f
+
+-- reading into lists of zeros: the first fault, or what was read
 abbrev pub Reads-all : List ℕ → List ℕ → Held → Result Parsed Finding → Type 0
 Reads-all sizes plan h (Ok p) = (first (sheetChecks sizes plan) ≡ None) × Parses plan p × Read sizes plan h
-Reads-all sizes plan h (Err f) =
-    (first (sheetChecks sizes plan) ≡ Some f) × (f .from + f .width ≤ length (ofSheet sizes plan (f .sheet))) × (clears (f .wrong) ≡ true)
+Reads-all sizes plan h (Err f) = Found sizes plan (sheetChecks sizes plan) f

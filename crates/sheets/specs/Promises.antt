@@ -4,7 +4,6 @@ use mathlib.Core.Path.{_≡_}
 use mathlib.Core.List.{List}
 use mathlib.Core.Bool.{true}
 use lib.ListN.{length}
-use Rattle.std.specs.declared.option.Option.{Option}
 use Rattle.std.specs.declared.option.Option.the-variants.{Some, None}
 use Rattle.std.specs.declared.result.Result.{Result}
 use Rattle.std.specs.declared.result.Result.the-variants.{Ok, Err}
@@ -26,8 +25,3 @@ Passed bytes s w = (nextLine bytes s ≡ s + w + 1) × (s + w < length bytes)
 abbrev pub Reads : {X : Type 0} → Sheet → List ℕ → List Check → (X → Type 0) → Result X Finding → Type 0
 Reads name bytes cs done (Ok x) = (first cs ≡ None) × done x
 Reads name bytes cs done (Err f) = (first cs ≡ Some f) × Lies name bytes f
-
--- the fault of a call, if it has one
-abbrev pub failure : {X : Type 0} → Result X Finding → Option Finding
-failure (Ok x) = None
-failure (Err f) = Some f

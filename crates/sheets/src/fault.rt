@@ -3,9 +3,10 @@ ghost use mathlib.Core.Path.{_≡_};
 ghost use Prim.Native.Nat.{_+_, _^_, _<_};
 ghost use Rattle.sheets.specs.Checks.{wholeFinding, lineFinding, fieldFinding};
 ghost use Rattle.sheets.specs.Faults.{numberOf, layerOf, sheetNumber};
+use plans::LoadRefusal;
 
 // What is wrong.
-#[derive(Clone, Copy, PartialEq, Eq, Debug)]
+#[derive(Clone, Copy)]
 pub enum Wrong {
     // a list of the caller's has too little room
     ListTooShort,
@@ -19,6 +20,8 @@ pub enum Wrong {
     OutOfRange,
     // a sheet has too many bytes
     SheetTooLong,
+    // the sheets are well written, and a representation refuses to load what they say
+    Refused(LoadRefusal),
 }
 
 // At which layer of the reading it is wrong.
@@ -28,6 +31,7 @@ pub enum Layer {
     Sheet,
     Line,
     Field,
+    Plan,
 }
 
 // One of the two sheets.
@@ -61,7 +65,7 @@ pub struct Fault<'a> {
 
 impl Wrong {
     // The number that the listing prints.
-    pub fn number(self) -> u8
+    pub fn number(self) -> u16
         ensures { λ r. ⌜ r ≡ numberOf self ⌝ }
     {
         match self {
@@ -71,6 +75,7 @@ impl Wrong {
             Wrong::BadField => 63,
             Wrong::OutOfRange => 64,
             Wrong::SheetTooLong => 65,
+            Wrong::Refused(refusal) => refusal.number(),
         }
     }
 
@@ -83,6 +88,7 @@ impl Wrong {
             Wrong::SheetTooLong => Layer::Sheet,
             Wrong::LineLength => Layer::Line,
             Wrong::UnknownWord | Wrong::BadField | Wrong::OutOfRange => Layer::Field,
+            Wrong::Refused(_) => Layer::Plan,
         }
     }
 }

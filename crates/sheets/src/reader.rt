@@ -7,9 +7,8 @@ ghost use Rattle.std.specs.Options.{Cases};
 ghost use Rattle.sheets.specs.Checks.{first};
 ghost use Rattle.sheets.specs.Faults.{clears};
 ghost use Rattle.sheets.specs.Lists.{Cleared, sidesOf};
-ghost use Rattle.sheets.specs.Parsing.{Answers, First-of, Leaves, Reads-all, held};
-ghost use Rattle.sheets.specs.Promises.{failure};
-ghost use Rattle.sheets.specs.Reading.{lengthChecks, listChecks};
+ghost use Rattle.sheets.specs.Parsing.{Answers, First-of, Leaves, Reads-all, Reads-lengths, held};
+ghost use Rattle.sheets.specs.Reading.{listChecks};
 use crate::fault::Fault;
 use crate::fault::Finding;
 use crate::fault::Sheet;
@@ -46,7 +45,7 @@ fn short_list(sides: usize, codes: usize, places: usize) -> Option<Finding>
 
 // The fault of a sheet that is too long.
 fn check_lengths(sizes: &[u8], plan: &[u8]) -> Result<(), Finding>
-    ensures { λ r. ⌜ failure r ≡ first (lengthChecks (now (sizes .entry)) (now (plan .entry))) ⌝ }
+    ensures { λ r. ⌜ Reads-lengths (now (sizes .entry)) (now (plan .entry)) r ⌝ }
 {
     if sizes.len() > MOST_BYTES {
         return Err(Finding::whole(Wrong::SheetTooLong, Sheet::Sizes));

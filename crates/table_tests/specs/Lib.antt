@@ -1,2 +1,5 @@
 -- What the tests of a load answer.
 pub mod Codes
+pub mod Closure
+pub mod Places
+pub mod Tested

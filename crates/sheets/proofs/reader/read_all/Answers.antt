@@ -14,12 +14,18 @@ use Rattle.sheets.specs.Lists.{Filled, sidesOf, sidesRead}
 use Rattle.sheets.specs.Parsing.{ofSheet, Parses, Read}
 use Rattle.sheets.specs.Reading.{codeRead, modulesOf, numberAt, sheetChecks}
 use Rattle.sheets.proofs.LineLemmas.{line-start-more}
-use Rattle.sheets.proofs.StageLemmas.{head-fault, head-passed, sizes-fault, sizes-passed, rows-fault, rows-passed}
+use Rattle.sheets.proofs.StageLemmas.{length-fault, head-fault, head-passed, sizes-fault, sizes-passed, rows-fault, rows-passed}
 use Rattle.sheets.proofs.reader.read_all.Needs as need
 
 -- a field that lies in the sheet of one name lies in the sheet that its fault names
 inside : (sizes plan : List ℕ) (name : Sheet) (f : Finding) → f .sheet ≡ name → f .from + f .width ≤ length (ofSheet sizes plan name) → f .from + f .width ≤ length (ofSheet sizes plan (f .sheet))
 inside sizes plan name f e h = subst (λ s. f .from + f .width ≤ length (ofSheet sizes plan s)) (sym e) h
+
+pub returns-in-Break-check-lengths : need.returns-in-Break-check-lengths
+returns-in-Break-check-lengths c =
+    let p = err-from-errBy (c .from-residual .result) (c .from-residual .ensures .1) in
+    let found = c .in-Break-check-lengths .ensures tt in
+    rw (p .1, p .2) (length-fault (c .args .sizes .now) (c .args .plan .now) _ (found .0), found .1, found .2)
 
 pub returns-in-Break-head : need.returns-in-Break-head
 returns-in-Break-head c =

@@ -1,5 +1,6 @@
 -- A row that has j adds its module.
 use Prim.Native.Nat.{ℕ}
+use native.Mathlib.Omega.{arith}
 use mathlib.Core.Path.{_≡_, sym, _∙_, subst, ap}
 use mathlib.Core.Bool.{_&&_, _||_}
 use lib.Dec.{ltb, eqb}
@@ -32,5 +33,5 @@ unfolding edge
 returns c =
     λ k.
     c .loop-i .inv k
-    ∙ found-all (λ i. rowHas (c .args .self .now .rows) i (c .args .j)) (c .loop-i .i) k (c .loop-i-test .left)
-    (λ l. row-outside (c .args .self .now .rows) k (c .args .j) l)
+    ∙ found-all (λ i. rowHas (c .args .self .now .rows) i (c .args .j)) (c .loop-i .i) k
+    (λ l. row-outside (c .args .self .now .rows) k (c .args .j) (omega arith))

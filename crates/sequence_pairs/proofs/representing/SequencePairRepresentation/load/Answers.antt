@@ -8,15 +8,15 @@ use Rattle.sequence_pairs.proofs.Counted.{refit}
 use Rattle.sequence_pairs.specs.Meaning.{meant}
 use Rattle.sequence_pairs.proofs.representing.SequencePairRepresentation.load.Needs as need
 
-pub from-table-requires : need.from-table-requires
-from-table-requires c κs =
-    let f = load-feasible (c .args .codes .now) (c .args .sequence .now) (sym (c .in-rest .ensures tt)) in
+pub from-table-loaded-requires : need.from-table-loaded-requires
+from-table-loaded-requires c κs =
+    let f = load-feasible (c .args .codes .now) (c .args .sequence .now) (c .in-Continue--graphs .ensures tt .0) in
     ((f .table .few, f .full), f .table)
 
 pub returns : need.returns
 returns c =
-    let none = sym (c .in-rest .ensures tt) in
+    let none = c .in-Continue--graphs .ensures tt .0 in
     let f = load-feasible (c .args .codes .now) (c .args .sequence .now) none in
     let q = given (c .args .codes .now) (c .args .sequence .now) in
     follows-done (loadRefusal (c .args .codes .now) (c .args .sequence .now)) q (meant (c .args .self .now))
-    (meant (c .from-table .result)) none (c .from-table .ensures ∙ refit q f)
+    (meant (c .from-table-loaded .result)) none (c .from-table-loaded .ensures ∙ refit q f)

@@ -1,2 +1,0 @@
--- What the loops of the tests share.
-pub mod Loops
