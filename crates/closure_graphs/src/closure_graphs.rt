@@ -10,6 +10,7 @@ use graphs::Graph;
 
 // The modules right of each and above each, and the first `size` places of the sequence. The floorplan of
 // these is feasible, and each graph has its edges and no other.
+#[derive(Drop)]
 pub struct ClosureGraphs {
     pub(crate) size: usize,
     pub(crate) right: Graph,

@@ -1,7 +1,9 @@
 -- Lemmas on what the listing writes.
 pub mod Spelled
 pub mod ReadBack
-pub mod Outcomes
 pub mod Records
 pub mod Packings
 pub mod ScriptSteps
+pub mod Faultless
+pub mod Borders
+pub mod Outcomes

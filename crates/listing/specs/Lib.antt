@@ -8,5 +8,5 @@ pub mod CommandLines
 pub mod Deciding
 pub mod ScriptLines
 pub mod Whole
+pub mod Bordered
 pub mod WorkedListing
-pub mod Listed

@@ -1,4 +1,5 @@
 // The listing of a task as bytes.
+mod bordered;
 mod columns;
 mod deciding;
 mod fault;
