@@ -38,7 +38,7 @@ plain-same a b e = ap plainOf e
 pub plain-laws : Lawful plainLengths
 plain-laws = copied-lawful plainLengths plainKind (λ a. a .0) number-carries (λ a b. refl) plain-same plain-lawful
 
-count-carries : Carries countedLengths countedKind countOf
+pub count-carries : Carries countedLengths countedKind countOf
 count-carries =
     record {
       zero = refl;
