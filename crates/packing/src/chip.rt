@@ -30,7 +30,7 @@ fn chip_to<L: Length>(far: Corner<L>) -> Chip<L>
 }
 
 // The chip of the first modules of a list.
-pub fn chip_around<L: Length>(modules: usize, results: &[Placed<L>]) -> Chip<L>
+pub(crate) fn chip_around<L: Length>(modules: usize, results: &[Placed<L>]) -> Chip<L>
     requires { ⌜ modules ≤ length (now results) ⌝ }
     ensures { λ r. ⌜ r ≡ chipIn (L·Length .kind) modules (now (results .entry)) ⌝ }
 {

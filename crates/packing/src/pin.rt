@@ -2,7 +2,7 @@
 
 // A corner by its edges, across and upwards.
 #[derive(Clone, Copy)]
-pub struct Corner<L> {
+pub(crate) struct Corner<L> {
     pub across: L,
     pub up: L,
 }
