@@ -1,8 +1,9 @@
 -- The members of a set of modules.
 use Prim.Native.Nat.{ℕ, _/_, _%_, _^_}
-use mathlib.Core.Bool.{Bool, not, _&&_}
+use mathlib.Core.Bool.{Bool, true, false, not, _&&_}
 use lib.Dec.{eqb, ltb}
 use Rattle.std.specs.declared.option.Option.{Option}
+use Rattle.std.specs.declared.option.Option.the-variants.{Some, None}
 use Rattle.plans.specs.Search.{someBelow, countBelow, firstBelow}
 use Rattle.module_set.specs.declared.set.ModuleSet.{ModuleSet}
 
@@ -33,3 +34,8 @@ leastMember s = firstBelow 64 (member s)
 -- how many members a set has
 unfoldable pub memberCount : ModuleSet → ℕ
 memberCount s = countBelow 64 (member s)
+
+-- whether a number is the one that was found
+abbrev pub isThis : Option ℕ → ℕ → Bool
+isThis (Some i) k = eqb k i
+isThis None k = false

@@ -3,7 +3,7 @@ ghost use mathlib.Core.Bool.{true, false, cond, not, _&&_, _||_};
 ghost use mathlib.Core.Path.{_≡_};
 ghost use lib.Dec.{eqb, ltb};
 ghost use Prim.Native.Nat.{ℕ};
-ghost use Rattle.module_set.specs.Members.{member, noMember, inSet, leastMember, memberCount};
+ghost use Rattle.module_set.specs.Members.{member, noMember, inSet, leastMember, memberCount, isThis};
 ghost use Rattle.plans.specs.Changes.{exchange};
 
 // The modules whose bit is set. A number over 63 is never a member.
@@ -105,6 +105,18 @@ impl ModuleSet {
     {
         let k = self.bits.trailing_zeros();
         if k < 64 { Some(k as usize) } else { None }
+    }
+
+    // Takes the least member out and answers it, so that calls in a row give the members in turn.
+    pub fn pop_first(&mut self) -> Option<usize>
+        ensures least { λ r. ⌜ r ≡ leastMember (now (self .entry)) ⌝ }
+        ensures rest { λ r. ⌜ ((k : ℕ) → member (now (self .exit)) k ≡ (member (now (self .entry)) k && not (isThis r k))) ⌝ }
+    {
+        let least = self.first();
+        if let Some(i) = least {
+            *self = self.without(i);
+        }
+        least
     }
 
     // How many members there are.

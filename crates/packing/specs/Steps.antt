@@ -53,12 +53,27 @@ module _ {L : Type 0} (K : Kind L) where
   abbrev pub cornerAtMost : Corner L → Corner L → Bool
   cornerAtMost a b = K .atMost (a .across) (b .across) && K .atMost (a .up) (b .up)
 
+  -- a far corner moved out to hold a placed module
+  abbrev pub cornerAround : Corner L → Placed L → Corner L
+  cornerAround far placed =
+      record { across = K .later (far .across) (placed .right); up = K .later (far .up) (placed .top) }
+
+  -- the latest far edges of the first m records of a list
+  abbrev pub farCorner : List (Placed L) → ℕ → Corner L
+  farCorner results m =
+      record {
+        across = latest K (λ i. true) (λ i. getD results i blank .right) m;
+        up = latest K (λ i. true) (λ i. getD results i blank .top) m;
+      }
+
+  -- the chip that ends at a far corner
+  abbrev pub chipTo : Corner L → Chip L
+  chipTo far =
+      record { width = far .across; height = far .up; area = K .reach (far .across) * K .reach (far .up) }
+
   -- the chip of the first m records of a list
   abbrev pub chipIn : ℕ → List (Placed L) → Chip L
-  chipIn m results =
-      let width = latest K (λ i. true) (λ i. getD results i blank .right) m in
-      let height = latest K (λ i. true) (λ i. getD results i blank .top) m in
-      record { width = width; height = height; area = K .reach width * K .reach height }
+  chipIn m results = chipTo (farCorner results m)
 
   module _ (t : Task L) (pins : Pins L) where
     -- what can be packed into a list of this length

@@ -26,7 +26,7 @@ fn moved_past<L: Length>(corner: Corner<L>, code: u8, placed: Placed<L>) -> Corn
 }
 
 // The free corner of module i, after those at the places before this one, which have their records.
-pub fn free_corner<R: Representation, L: Length>(
+pub(crate) fn free_corner<R: Representation, L: Length>(
     representation: &R,
     place: usize,
     i: usize,

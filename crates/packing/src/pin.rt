@@ -1,8 +1,8 @@
-// Points in the plane: where a module begins, and where one is pinned.
+// Points in the plane: corners of modules and chips, and where a module is pinned.
 
-// The near edges of a module, across and upwards.
+// A corner by its edges, across and upwards.
 #[derive(Clone, Copy)]
-pub struct Corner<L> {
+pub(crate) struct Corner<L> {
     pub across: L,
     pub up: L,
 }

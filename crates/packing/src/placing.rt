@@ -86,7 +86,7 @@ fn place_module<R: Representation, L: Length>(
 }
 
 // Writes the record of every module. Whether no module is pushed past its pin.
-pub fn place_all<R: Representation, L: Length>(
+pub(crate) fn place_all<R: Representation, L: Length>(
     representation: &R,
     rotated: ModuleSet,
     sides: &[Sides<L>],

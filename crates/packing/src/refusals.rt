@@ -39,7 +39,7 @@ fn first_wrong<L: Length>(sides: &[Sides<L>]) -> Option<usize>
 }
 
 // The first refusal of any packing.
-pub fn check_sides<R: Representation, L: Length>(
+pub(crate) fn check_sides<R: Representation, L: Length>(
     representation: &R,
     sides: &[Sides<L>],
     results: &[Placed<L>],
@@ -60,7 +60,7 @@ pub fn check_sides<R: Representation, L: Length>(
 }
 
 // Whether a pin lies too far out.
-pub fn is_far<L: Length>(pin: Pin<L>) -> bool
+pub(crate) fn is_far<L: Length>(pin: Pin<L>) -> bool
     ensures { λ r. ⌜ r ≡ (ltb pinLimit (L·Length .kind .reach (pin .across)) || ltb pinLimit (L·Length .kind .reach (pin .up))) ⌝ }
 {
     FARTHEST_PIN < pin.across.extent() || FARTHEST_PIN < pin.up.extent()

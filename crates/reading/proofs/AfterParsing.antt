@@ -1,5 +1,5 @@
 -- A done parsing: what the load is given, that it can be given, and the outcome by what the load answers.
-use Prim.Native.Nat.{ℕ, _-_, _*_, _≤_}
+use Prim.Native.Nat.{ℕ, _*_, _≤_}
 use denote.Ref.{RefT, now}
 use mathlib.Core.Path.{_≡_, sym, _∙_, ap, ap₂, subst}
 use mathlib.Core.List.{List, map}
@@ -54,10 +54,10 @@ module _ {sizes plan : RefT (List ℕ)} {before after : Held} {p : Parsed} (d : 
   same : p .modules ≡ modulesOf (now plan)
   same = parses .modules
 
-  -- the codes and the places lie in their lists
-  pub few : p .modules ≤ 64
+  few : p .modules ≤ 64
   few = let h = few-modules (now sizes) (now plan) before passed in omega (arith, h, same)
 
+  -- the codes and the places lie in their lists
   pub codes-end : p .modules * p .modules ≤ length (after .codes)
   codes-end =
       let h = mul-le (p .modules) (p .modules) 64 64 few few in
@@ -71,22 +71,20 @@ module _ {sizes plan : RefT (List ℕ)} {before after : Held} {p : Parsed} (d : 
   pub placed : WellPlaced (now plan) (p .modules)
   placed = subst (WellPlaced (now plan)) (sym same) (well-placed (now sizes) (now plan) before passed)
 
-  codes-loaded : take (p .modules * p .modules - 0) (after .codes) ≡ codesWritten (now plan)
+  codes-loaded : take (p .modules * p .modules) (after .codes) ≡ codesWritten (now plan)
   codes-loaded =
-      let n : p .modules * p .modules - 0 ≡ p .modules * p .modules = omega arith in
       let square : p .modules * p .modules ≡ modulesOf (now plan) * modulesOf (now plan) = ap₂ (λ a b. a * b) same same in
-      ap (λ k. take k (after .codes)) (n ∙ square)
+      ap (λ k. take k (after .codes)) square
       ∙ front-read (codeRead (now plan) (modulesOf (now plan))) (modulesOf (now plan) * modulesOf (now plan)) (after .codes) (done .codes-read) (omega (arith, square, codes-end))
 
-  places-loaded : take (p .modules - 0) (after .places) ≡ sequenceWritten (now plan)
+  places-loaded : take (p .modules) (after .places) ≡ sequenceWritten (now plan)
   places-loaded =
-      let n : p .modules - 0 ≡ p .modules = omega arith in
-      ap (λ k. take k (after .places)) (n ∙ same)
+      ap (λ k. take k (after .places)) same
       ∙ front-read (placeRead (now plan) (modulesOf (now plan))) (modulesOf (now plan)) (after .places) (done .places-read) (omega (arith, same, places-end))
 
   -- the load that is done
   abbrev pub Loaded : Result (Unit {0}) LoadRefusal → Floorplan → Floorplan → Type 0
-  Loaded = Follows (after-load (take (p .modules * p .modules - 0) (after .codes)) (take (p .modules - 0) (after .places)))
+  Loaded = Follows (after-load (take (p .modules * p .modules) (after .codes)) (take (p .modules) (after .places)))
 
   as-written : (r : Result (Unit {0}) LoadRefusal) (old new : Floorplan) → Loaded r old new → Follows (unless (refusalWritten (now plan)) (floorplanWritten (now plan))) r old new
   as-written r old new h = subst (λ l. Follows l r old new) (ap₂ after-load codes-loaded places-loaded) h

@@ -39,14 +39,8 @@ fn at_place<'a>(plan: &'a [u8], modules: usize, refusal: LoadRefusal, k: usize) 
     requires inside { ⌜ k < modules ⌝ }
     ensures { λ r. ⌜ Tells (plan .entry) (placeFinding (now (plan .entry)) modules refusal k) r ⌝ }
 {
-    at_field(
-        plan,
-        refusal,
-        modules + 2,
-        row_start(modules, modules),
-        4 * k,
-        4,
-    )
+    let start = row_start(modules, modules);
+    at_field(plan, refusal, modules + 2, start, 4 * k, 4)
 }
 
 // The fault that tells where a load was refused.

@@ -8,8 +8,8 @@ use Rattle.std.proofs.shelf.Bits.{mul-le}
 use Rattle.std.proofs.shelf.Counted.{fill-by-all}
 use Rattle.std.proofs.shelf.Lists.{length-take-le, getD-take}
 use Rattle.std.specs.declared.option.Option.{Option}
-use Rattle.std.specs.declared.option.Option.the-variants.{Some, None}
-use Rattle.std.specs.declared.result.Result.the-variants.{Ok, Err}
+use Rattle.std.specs.declared.option.Option.the-variants.{None}
+use Rattle.std.specs.declared.result.Result.the-variants.{Ok}
 use Rattle.plans.proofs.ChangesFeasible.{changes-feasible}
 use Rattle.plans.proofs.TableLists.{same-table}
 use Rattle.plans.specs.Changes.{Follows, changeRefusal, changed, unless}
@@ -86,8 +86,3 @@ part-long x codes e =
 pub follows-done :
     {E : Type 0} (r : Option E) (q old new : Floorplan) → r ≡ None → new ≡ q → Follows (unless r q) (Ok tt) old new
 follows-done r q old new e same = subst (λ t. Follows (unless t q) (Ok tt) old new) (sym e) (refl, same)
-
--- a refused call
-pub follows-refused :
-    {E : Type 0} (r : Option E) (e : E) (q old : Floorplan) → r ≡ Some e → Follows (unless r q) (Err e) old old
-follows-refused r e q old same = subst (λ t. Follows (unless t q) (Err e) old old) (sym same) (refl, refl)

@@ -23,7 +23,11 @@ use Rattle.plans.specs.Tables.{tableOf}
 use Rattle.plans.specs.Tests.{misshapen, codeWrong, selfRelated, notOneEdge, notClosed, tellingPair, tableRefusal, sequenceRefusal, loadRefusal}
 use Rattle.plans.specs.declared.refusals.LoadRefusal.{LoadRefusal}
 use Rattle.plans.specs.declared.refusals.LoadRefusal.the-variants.{WrongShape, WrongCode, SelfRelated, NotOneEdge, NotClosed}
+use Rattle.graphs.specs.declared.graph.Graph.{Graph}
+use Rattle.table_tests.proofs.ClosureRows.{closure-by-rows}
+use Rattle.table_tests.specs.Closure.{missing}
 use Rattle.table_tests.specs.Codes.{codesRefusal}
+use Rattle.table_tests.specs.Tested.{Shows}
 
 -- what is answered as a refusal or as done
 pub refused-was : {X E : Type 0} (o : Option E) (x : X) (e : E) → unless o x ≡ Err e → o ≡ Some e
@@ -112,3 +116,9 @@ module _ (codes s : List ℕ) where
               absurd (grind (arith, tells))
           | inr less ↦ less
         ]
+
+    -- their graphs lack an edge where the table is not closed
+    pub closed-by-rows :
+        (g h : Graph) → Shows (tableOf m codes) 1 g → Shows (tableOf m codes) 2 h
+        → firstPair m (missing g h) ≡ firstPair m (notClosed m (tableOf m codes))
+    closed-by-rows g h = closure-by-rows m codes g h shape-few codes-small

@@ -1,14 +1,10 @@
 -- A fault of parsing, a refused load, or what the plan sheet says.
-use borrow.Author.Needs.{needs}
-use Prim.Native.Nat.{_*_, _≤_}
 use mathlib.Core.Logic.{inl}
-use lib.ListN.{length}
-use Rattle.std.proofs.shelf.Bits.{mul-le}
 use Rattle.std.proofs.shelf.Results.{err-from-errBy}
 use Rattle.sheets.specs.Checks.{first}
 use Rattle.sheets.specs.Parsing.{checksFor, held}
 use Rattle.reading.specs.Outcome.{loadFault}
-use Rattle.reading.proofs.AfterParsing.{Done, few, codes-end, places-end, placed, done-answered, done-means, done-law, refused-told, refused-answered, refused-means, refused-law}
+use Rattle.reading.proofs.AfterParsing.{Done, codes-end, places-end, placed, done-answered, done-means, done-law, refused-told, refused-answered, refused-means, refused-law}
 use Rattle.reading.proofs.Outcomes.{parse-fault, parse-fault-keeps}
 use Rattle.reading.proofs.whole.read.Given as given
 use Rattle.reading.proofs.whole.read.Needs as need
@@ -40,24 +36,10 @@ after-parsing g c = record {
   places-kept = c .parse .kept .places;
 }
 
-pub mul-modules : need.mul-modules
-mul-modules g c =
-    let m = c .in-Continue-parsed .parsed .modules in
-    let h : m ≤ 64 = few (after-parsing g (need.at·mul-modules g c .In-Continue-parsed)) in
-    let k : m * m ≤ 4096 = mul-le m m 64 64 h h in
-    search needs
-
-pub part-load-end : need.part-load-end
-part-load-end g c =
-    let m = c .in-Continue-parsed .parsed .modules in
-    let h : m * m ≤ length (c .parse .last .codes) = codes-end (after-parsing g (need.at·part-load-end g c .In-Continue-parsed)) in
-    search needs
-
-pub part-load-end-2 : need.part-load-end-2
-part-load-end-2 g c =
-    let m = c .in-Continue-parsed .parsed .modules in
-    let h : m ≤ length (c .parse .last .places) = places-end (after-parsing g (need.at·part-load-end-2 g c .In-Continue-parsed)) in
-    search needs
+pub load-front-requires : need.load-front-requires
+load-front-requires g c κs =
+    let d = after-parsing g (need.at·load-front-requires g c .In-Continue-parsed) in
+    record { room = (codes-end d, places-end d) }
 
 pub refused-requires : need.refused-requires
 refused-requires g c κs =

@@ -4,8 +4,7 @@ use lib.ListN.{length}
 use Rattle.std.proofs.shelf.Results.{err-from-errBy}
 use Rattle.plans.specs.Tables.{tableOf}
 use Rattle.plans.specs.Tests.{sequenceRefusal}
-use Rattle.table_tests.proofs.ClosureRows.{closure-by-rows}
-use Rattle.table_tests.proofs.InTurn.{refused-was, done-was, refused-by-closure, answered-by-sequence, shape-few, codes-small}
+use Rattle.table_tests.proofs.InTurn.{refused-was, done-was, closed-by-rows, refused-by-closure, answered-by-sequence}
 use Rattle.table_tests.specs.Codes.{codesRefusal}
 use Rattle.table_tests.proofs.tested.tested_graphs.Needs as need
 
@@ -15,8 +14,8 @@ returns-in-Some c =
     let s = c .args .sequence .now in
     let passed = done-was (codesRefusal 64 2 (length s) codes) tt _ (sym (c .in-Continue-check-codes .ensures tt)) in
     let rows =
-    closure-by-rows (length s) codes (c .graph-of-right .result) (c .graph-of-above .result) (shape-few codes s passed)
-    (codes-small codes s passed) (c .graph-of-right .ensures) (c .graph-of-above .ensures)
+    closed-by-rows codes s passed (c .graph-of-right .result) (c .graph-of-above .result) (c .graph-of-right .ensures)
+    (c .graph-of-above .ensures)
     in
     refused-by-closure codes s passed (c .in-Some .i) (c .in-Some .k) (sym rows ∙ sym (c .in-Some .ensures tt))
 
@@ -26,8 +25,8 @@ returns-in-Break-check-sequence c =
     let s = c .args .sequence .now in
     let passed = done-was (codesRefusal 64 2 (length s) codes) tt _ (sym (c .in-Continue-check-codes .ensures tt)) in
     let rows =
-    closure-by-rows (length s) codes (c .graph-of-right .result) (c .graph-of-above .result) (shape-few codes s passed)
-    (codes-small codes s passed) (c .graph-of-right .ensures) (c .graph-of-above .ensures)
+    closed-by-rows codes s passed (c .graph-of-right .result) (c .graph-of-above .result) (c .graph-of-right .ensures)
+    (c .graph-of-above .ensures)
     in
     let by = answered-by-sequence codes s passed (sym rows ∙ sym (c .in-rest .ensures tt)) in
     let refused = refused-was (sequenceRefusal (tableOf (length s) codes) s) tt _ (sym (c .in-Break-check-sequence .ensures tt)) in
@@ -40,8 +39,8 @@ returns c =
     let s = c .args .sequence .now in
     let passed = done-was (codesRefusal 64 2 (length s) codes) tt _ (sym (c .in-Continue-check-codes .ensures tt)) in
     let rows =
-    closure-by-rows (length s) codes (c .graph-of-right .result) (c .graph-of-above .result) (shape-few codes s passed)
-    (codes-small codes s passed) (c .graph-of-right .ensures) (c .graph-of-above .ensures)
+    closed-by-rows codes s passed (c .graph-of-right .result) (c .graph-of-above .result) (c .graph-of-right .ensures)
+    (c .graph-of-above .ensures)
     in
     let by = answered-by-sequence codes s passed (sym rows ∙ sym (c .in-rest .ensures tt)) in
     let none = done-was (sequenceRefusal (tableOf (length s) codes) s) tt _ (sym (c .in-Continue-check-sequence .ensures tt)) in

@@ -6,8 +6,8 @@ use Rattle.sequence_pairs.proofs.Changed.{square-few, accepted-part, part-long
 use Rattle.sequence_pairs.specs.Meaning.{meant}
 use Rattle.sequence_pairs.proofs.pair.SequencePair.change.Needs as need
 
-pub part-made-end : need.part-made-end
-part-made-end c =
+pub part-from-table-end : need.part-from-table-end
+part-from-table-end c =
     omega (arith, square-few (c .args .self .now .count) (c .args .self .now .few), c .write-changed .kept .codes)
 
 pub from-table-made-requires : need.from-table-made-requires
