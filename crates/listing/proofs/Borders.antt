@@ -6,7 +6,6 @@ use Rattle.lengths.specs.declared.plain.Plain.{Plain}
 use Rattle.listing.specs.Bordered.{borderedSides}
 use Rattle.listing.specs.Whole.{bordered}
 use Rattle.plans.specs.CarriedPackings.{carrySides}
-use Rattle.plans.specs.Kinds.{Count}
 use Rattle.plans.specs.declared.measures.Sides.{Sides}
 use Rattle.std.proofs.shelf.Lists.{map-append, take-more, take-more-set}
 use lib.ListN.{length, getD, set, take}

@@ -17,7 +17,6 @@ use Rattle.sheets.specs.Words.{headWord}
 use Rattle.sheets.specs.declared.fault.Fault.{Fault}
 use Rattle.sheets.specs.declared.fault.Finding.{Finding}
 use Rattle.sheets.specs.declared.parsed.Parsed.{Parsed}
-use Rattle.sheets.specs.declared.place.Place.{Place}
 use Rattle.std.specs.declared.option.Option.{Option}
 use Rattle.std.specs.declared.option.Option.the-variants.{Some, None}
 use Rattle.std.specs.declared.result.Result.the-variants.{Ok, Err}

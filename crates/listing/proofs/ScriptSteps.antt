@@ -24,8 +24,8 @@ use borrow.Author.Tests.{ltb-true}
 use denote.Ref.{RefT, now}
 use lib.ListN.{length}
 use mathlib.Core.Bool.{Bool, true, false, cond}
-use mathlib.Core.List.{List, [], _++_, append-nil}
-use mathlib.Core.Path.{_≡_, refl, sym, ap, _∙_, subst}
+use mathlib.Core.List.{List, [], _++_}
+use mathlib.Core.Path.{_≡_, refl, sym, ap, _∙_}
 use native.Mathlib.Omega.{arith}
 
 module _ (plan : RefT (List ℕ)) (at : Place) where

@@ -1,6 +1,5 @@
 -- Sides that were read, with one border each.
 use Prim.Native.Nat.{ℕ, _<_, _≤_}
-use Rattle.lengths.specs.PlainLengths.{plainOf}
 use Rattle.lengths.specs.declared.plain.Plain.{Plain}
 use Rattle.listing.specs.Whole.{bordered}
 use Rattle.plans.specs.Kinds.{Count}

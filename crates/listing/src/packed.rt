@@ -1,7 +1,8 @@
 // The lines of a packing.
 ghost use Prim.Native.Nat.{_≤_};
 ghost use Rattle.lengths.specs.CountedLengths.{countOf};
-ghost use Rattle.listing.specs.PackLines.{chipLines, packedLines, recordLines};
+ghost use Rattle.listing.specs.Line.{edgeLine};
+ghost use Rattle.listing.specs.PackLines.{chipLines, recordLines};
 ghost use Rattle.plans.specs.CarriedPackings.{carryChip, carryPlaced};
 ghost use Rattle.std.specs.Of.Vec.{vec-items};
 ghost use Rattle.std.specs.Vec.{made};
@@ -37,6 +38,17 @@ pub(crate) fn append_records(
     Ok(())
 }
 
+// Appends the line of a chip's borders.
+fn append_borders(out: &mut Vec<u8>, chip: Chip<Counted>) -> Result<(), AllocError>
+    ensures { λ r. ⌜ made r (λ _. vec-items (now (out .exit)) ≡ vec-items (now (out .entry)) ++ edgeLine (countOf (chip .width) .borders) (countOf (chip .height) .borders)) ⌝ }
+{
+    append_edge(
+        out,
+        chip.width.borders() as u64,
+        chip.height.borders() as u64,
+    )
+}
+
 // Appends the lines of a done packing: the chip, its modules and its borders.
 pub(crate) fn append_packing(
     out: &mut Vec<u8>,
@@ -54,10 +66,6 @@ pub(crate) fn append_packing(
         chip.area,
     )?;
     append_records(out, modules, results)?;
-    append_edge(
-        out,
-        chip.width.borders() as u64,
-        chip.height.borders() as u64,
-    )?;
+    append_borders(out, chip)?;
     Ok(())
 }

@@ -2,9 +2,7 @@
 use Prim.Native.Nat.{_<_}
 use Rattle.listing.proofs.Borders.{borders-more}
 use Rattle.listing.proofs.bordered.with_borders.Needs as need
-use borrow.Author.Needs.{needs}
 use lib.ListN.{length, length-set}
-use mathlib.Core.Path.{_≡_}
 use native.Mathlib.Omega.{arith}
 
 pub loop-i-again : need.loop-i-again

@@ -2,17 +2,15 @@
 use Rattle.lengths.specs.CountedLengths.{countOf}
 use Rattle.listing.proofs.ScriptSteps.{end-listed, fault-listed-last, line-listed, shorter, written-on}
 use Rattle.listing.proofs.script.run_script.Needs as need
-use Rattle.listing.specs.CommandLines.{commandLines}
 use Rattle.listing.specs.ScriptLines.{linesFrom}
 use Rattle.planner.specs.States.{stateOf}
 use Rattle.plans.specs.CarriedPackings.{carrySides}
 use Rattle.sheets.specs.Script.{Reads-line}
 use Rattle.std.specs.Of.Vec.{vec-items}
 use Rattle.std.specs.declared.result.Result.the-variants.{Ok}
-use borrow.Author.Needs.{needs}
 use lib.ListN.{length}
 use mathlib.Core.List.{_++_, map, append-nil}
-use mathlib.Core.Path.{_≡_, refl, sym, ap, subst, _∙_}
+use mathlib.Core.Path.{refl, sym, ap, subst, _∙_}
 use native.Mathlib.Omega.{arith}
 
 pub loop-read-holds : need.loop-read-holds
