@@ -53,7 +53,7 @@ fn number(field: &[u8]) -> Option<u32>
 }
 
 // The number in the field of `width` bytes at offset `from` of a sheet.
-pub fn number_at(sheet: &[u8], from: usize, width: usize) -> Option<u32>
+pub(crate) fn number_at(sheet: &[u8], from: usize, width: usize) -> Option<u32>
     requires { ⌜ from + width ≤ length (now sheet) ⌝ ∗ ⌜ width < 10 ⌝ }
     ensures { λ r. ⌜ r ≡ fieldNumber (part (now (sheet .entry)) from width) ⌝ }
 {

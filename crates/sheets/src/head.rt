@@ -17,7 +17,7 @@ use crate::parsed::Head;
 use crate::word::head_word;
 
 // The head's word and number of modules.
-pub fn read_head(plan: &[u8]) -> Result<(Head, usize), Finding>
+pub(crate) fn read_head(plan: &[u8]) -> Result<(Head, usize), Finding>
     ensures { λ r. ⌜ Reads sheets.Plan (now (plan .entry)) (headChecks (now (plan .entry))) (λ h. (headWord (part (now (plan .entry)) 0 4) ≡ Some (h .0)) × (h .1 ≡ modulesOf (now (plan .entry))) × (h .1 ≤ 64) × Passed (now (plan .entry)) 0 8) r ⌝ }
 {
     if !has_width(plan, 0, 8) {

@@ -7,7 +7,7 @@ use crate::fault::Finding;
 use crate::fault::Sheet;
 
 // The fault that tells a finding, with its field as a part of the sheet.
-pub fn lend<'a>(sheet: &'a [u8], finding: Finding) -> Fault<'a>
+pub(crate) fn lend<'a>(sheet: &'a [u8], finding: Finding) -> Fault<'a>
     requires { ⌜ finding .from + finding .width ≤ length (now sheet) ⌝ }
     ensures { λ r. ⌜ Tells (sheet .entry) finding r ⌝ }
 {
@@ -23,7 +23,7 @@ pub fn lend<'a>(sheet: &'a [u8], finding: Finding) -> Fault<'a>
 }
 
 // The same, of the sheet that the finding names.
-pub fn lend_from<'a>(sizes: &'a [u8], plan: &'a [u8], finding: Finding) -> Fault<'a>
+pub(crate) fn lend_from<'a>(sizes: &'a [u8], plan: &'a [u8], finding: Finding) -> Fault<'a>
     requires { ⌜ finding .from + finding .width ≤ length (ofSheet (now sizes) (now plan) (finding .sheet)) ⌝ }
     ensures { λ r. ⌜ Tells (ofSheet (sizes .entry) (plan .entry) (finding .sheet)) finding r ⌝ }
 {

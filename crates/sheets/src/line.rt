@@ -6,7 +6,7 @@ ghost use mathlib.Core.Path.{_≡_};
 ghost use Rattle.sheets.specs.Lines.{goesOn, widthAt, hasWidth};
 
 // How many bytes the line at `start` has before its byte 10.
-pub fn line_width(sheet: &[u8], start: usize) -> usize
+pub(crate) fn line_width(sheet: &[u8], start: usize) -> usize
     requires { ⌜ start ≤ length (now sheet) ⌝ }
     ensures exact { λ r. ⌜ r ≡ widthAt (now (sheet .entry)) start ⌝ }
     ensures within { λ r. ⌜ start + r ≤ length (now (sheet .entry)) ⌝ }
@@ -20,7 +20,7 @@ pub fn line_width(sheet: &[u8], start: usize) -> usize
 }
 
 // Whether the line at `start` is there, has `width` bytes and ends in byte 10.
-pub fn has_width(sheet: &[u8], start: usize, width: usize) -> bool
+pub(crate) fn has_width(sheet: &[u8], start: usize, width: usize) -> bool
     requires { ⌜ start ≤ length (now sheet) ⌝ }
     ensures exact { λ r. ⌜ r ≡ hasWidth (now (sheet .entry)) start width ⌝ }
     ensures within { λ r. ⌜ (T r → start + width < length (now (sheet .entry))) ⌝ }
@@ -33,7 +33,7 @@ pub fn has_width(sheet: &[u8], start: usize, width: usize) -> bool
 }
 
 // Whether the sheet has a byte at `start`.
-pub fn goes_on(sheet: &[u8], start: usize) -> bool
+pub(crate) fn goes_on(sheet: &[u8], start: usize) -> bool
     ensures { λ r. ⌜ r ≡ goesOn (now (sheet .entry)) start ⌝ }
 {
     start < sheet.len()

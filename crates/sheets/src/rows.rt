@@ -41,7 +41,7 @@ fn read_row(
 }
 
 // All rows, written into a list of zeros; tells where the line behind them starts.
-pub fn read_rows(plan: &[u8], modules: usize, codes: &mut [u8]) -> Result<usize, Finding>
+pub(crate) fn read_rows(plan: &[u8], modules: usize, codes: &mut [u8]) -> Result<usize, Finding>
     requires small { ⌜ modules ≤ 64 ⌝ }
     requires room { ⌜ 4096 ≤ length (now codes) ⌝ }
     requires clear { ⌜ Cleared 0 (now codes) ⌝ }

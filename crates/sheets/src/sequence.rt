@@ -13,7 +13,7 @@ use crate::field::number_at;
 use crate::line::has_width;
 
 // The fields of the line at `start`, written into a list of zeros.
-pub fn read_sequence(
+pub(crate) fn read_sequence(
     plan: &[u8],
     line: usize,
     start: usize,

@@ -50,7 +50,11 @@ fn read_size_line(sizes: &[u8], line: usize, start: usize) -> Result<Sides<Plain
 }
 
 // All sides, written into a list of zeros.
-pub fn read_sizes(sizes: &[u8], modules: usize, sides: &mut [Sides<Plain>]) -> Result<(), Finding>
+pub(crate) fn read_sizes(
+    sizes: &[u8],
+    modules: usize,
+    sides: &mut [Sides<Plain>],
+) -> Result<(), Finding>
     requires small { ⌜ modules ≤ 64 ⌝ }
     requires room { ⌜ 64 ≤ length (now sides) ⌝ }
     requires clear { ⌜ Cleared (sidesOf 0 0) (now sides) ⌝ }

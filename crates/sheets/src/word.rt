@@ -9,7 +9,7 @@ use crate::parsed::Head;
 use plans::Change;
 
 // The head that four bytes name.
-pub fn head_word(word: &[u8]) -> Option<Head>
+pub(crate) fn head_word(word: &[u8]) -> Option<Head>
     requires { ⌜ length (now word) ≡ 4 ⌝ }
     ensures { λ r. ⌜ r ≡ headWord (now (word .entry)) ⌝ }
 {
@@ -21,7 +21,7 @@ pub fn head_word(word: &[u8]) -> Option<Head>
 }
 
 // The relation code that a letter stands for.
-pub fn code_of(letter: u8) -> Option<u8>
+pub(crate) fn code_of(letter: u8) -> Option<u8>
     ensures { λ r. ⌜ r ≡ letterCode letter ⌝ }
 {
     match char::from(letter) {
@@ -33,7 +33,7 @@ pub fn code_of(letter: u8) -> Option<u8>
 }
 
 // The word of a script line that four bytes spell.
-pub fn script_word(word: &[u8]) -> Option<Word>
+pub(crate) fn script_word(word: &[u8]) -> Option<Word>
     requires { ⌜ length (now word) ≡ 4 ⌝ }
     ensures { λ r. ⌜ r ≡ scriptWord (now (word .entry)) ⌝ }
 {
@@ -50,7 +50,7 @@ pub fn script_word(word: &[u8]) -> Option<Word>
 }
 
 // How many fields stand behind a word.
-pub fn fields_behind(word: Word) -> usize
+pub(crate) fn fields_behind(word: Word) -> usize
     ensures { λ r. ⌜ r ≡ fieldsBehind word ⌝ }
 {
     match word {
@@ -61,7 +61,7 @@ pub fn fields_behind(word: Word) -> usize
 }
 
 // The command of a word with the numbers of its fields.
-pub fn command_with(word: Word, a: usize, b: usize) -> Command
+pub(crate) fn command_with(word: Word, a: usize, b: usize) -> Command
     ensures { λ r. ⌜ r ≡ commandWith word a b ⌝ }
 {
     match word {

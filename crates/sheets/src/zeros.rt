@@ -13,7 +13,7 @@ fn clear<T: Copy>(list: &mut [T], zero: T)
 }
 
 // Sets every place of the three lists to zero.
-pub fn clear_all(sides: &mut [Sides<Plain>], codes: &mut [u8], places: &mut [usize])
+pub(crate) fn clear_all(sides: &mut [Sides<Plain>], codes: &mut [u8], places: &mut [usize])
     ensures sides { λ _. ⌜ Cleared (sidesOf 0 0) (now (sides .exit)) ⌝ }
     ensures codes { λ _. ⌜ Cleared 0 (now (codes .exit)) ⌝ }
     ensures places { λ _. ⌜ Cleared 0 (now (places .exit)) ⌝ }
