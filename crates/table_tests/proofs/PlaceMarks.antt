@@ -1,5 +1,5 @@
 -- The places of a sequence, by marking the modules that are met.
-use Prim.Native.Nat.{ℕ, suc, _+_, _*_, _≤_, _<_}
+use Prim.Native.Nat.{ℕ, zero, suc, _+_, _*_, _≤_, _<_}
 use native.Mathlib.Omega.{arith}
 use native.Mathlib.Numerals.{add-one}
 use mathlib.Core.Path.{_≡_, refl, sym, _∙_, ap, subst}
@@ -7,7 +7,7 @@ use mathlib.Core.Bool.{Bool, true, false, cond, not, _&&_, _||_}
 use mathlib.Core.List.{List}
 use mathlib.Core.Logic.{_⊎_, inl, inr, _≢_}
 use lib.Dec.{eqb, ltb, leb}
-use lib.ListN.{length, getD, set, length-set}
+use lib.ListN.{length, getD, set, length-set, replicate}
 use lib.Seq.{getD-set-same, getD-set-other}
 use Rattle.std.specs.declared.option.Option.{Option}
 use Rattle.std.specs.declared.option.Option.the-variants.{Some, None}
@@ -47,6 +47,33 @@ met-more s k x =
     by-cases true true false = refl
     by-cases true false true = refl
     by-cases true false false = refl
+
+-- a row without marks, and with one more
+pub mark-none : (n x : ℕ) → getD (replicate n false) x false ≡ false
+mark-none zero x = refl
+mark-none (suc n) zero = refl
+mark-none (suc n) (suc x) = mark-none n x
+
+pub mark-more :
+    (marks : List Bool) (m x : ℕ) → length marks ≡ 64 → m < 64
+    → getD (set marks m true) x false ≡ (getD marks x false || (ltb x 64 && eqb x m))
+mark-more marks m x long h =
+    elim (cases-eq x m) [
+      | inl same ↦
+          let less : m < length marks = omega (arith, long) in
+          rw (same, lt-ltb m 64 h, eq-eqb m m refl) (getD-set-same marks m true false less ∙ always (getD marks m false))
+      | inr other ↦
+          rw (ne-eqb x m other) (getD-set-other marks m x true false other ∙ never (getD marks x false) (ltb x 64))
+    ]
+  where
+    always : (b : Bool) → true ≡ (b || true)
+    always true = refl
+    always false = refl
+
+    never : (b c : Bool) → b ≡ (b || (c && false))
+    never true c = refl
+    never false true = refl
+    never false false = refl
 
 -- a place is wrong where its number is no module, or one that was met
 pub wrong-beyond : (s : List ℕ) (k : ℕ) → length s ≤ getD s k 0 → placeWrong s k ≡ true

@@ -8,7 +8,6 @@ ghost use Rattle.plans.specs.Search.{firstBelow, firstPair, placeOf};
 ghost use Rattle.plans.specs.Tables.{tableOf};
 ghost use Rattle.plans.specs.Tests.{placeWrong, backwards, sequenceRefusal};
 ghost use Rattle.table_tests.specs.Places.{against};
-use module_set::ModuleSet;
 use plans::LoadRefusal;
 
 // The first refusal of a sequence for a table of as many modules.
@@ -31,13 +30,13 @@ fn wrong_place(sequence: &[usize]) -> Option<usize>
     requires { ⌜ length (now sequence) ≤ 64 ⌝ }
     ensures { λ r. ⌜ r ≡ firstBelow (length (now (sequence .entry))) (placeWrong (now (sequence .entry))) ⌝ }
 {
-    let mut seen = ModuleSet::empty();
+    let mut marks = [false; 64];
     for k in 0..sequence.len() {
         let module = sequence[k];
-        if module >= sequence.len() || seen.contains(module) {
+        if module >= sequence.len() || marks[module] {
             return Some(k);
         }
-        seen = seen.with(module);
+        marks[module] = true;
     }
     None
 }
