@@ -1,4 +1,6 @@
 // The representation that keeps two closure graphs and the packing sequence.
+#![tactic(auto)]
+
 mod changes;
 mod closure_graphs;
 mod direction;

@@ -1,4 +1,6 @@
 // The comparison program: makes the listing of each case in cases.txt, and says whether it is the expected one.
+#![tactic(auto)]
+
 mod cases;
 
 use cases::next_case;

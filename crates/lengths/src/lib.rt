@@ -1,4 +1,6 @@
 // The kinds of length that sides, edges and chips are measured in.
+#![tactic(auto)]
+
 mod counted;
 mod laws;
 mod length;

@@ -1,4 +1,6 @@
 // The listing of a task as bytes.
+#![tactic(auto)]
+
 mod bordered;
 mod columns;
 mod deciding;

@@ -1,3 +1,5 @@
 // Listings of small tasks.
+#![tactic(auto)]
+
 #[cfg(test)]
 mod tests;

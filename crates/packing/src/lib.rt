@@ -1,4 +1,6 @@
 // The packer: the least placement of a floorplan, over any representation and in any kind of length.
+#![tactic(auto)]
+
 mod calls;
 mod chip;
 mod free;

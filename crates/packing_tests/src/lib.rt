@@ -1,4 +1,6 @@
 // The packer on examples, in plain and in counted lengths.
+#![tactic(auto)]
+
 #[cfg(test)]
 mod examples;
 #[cfg(test)]

@@ -1,4 +1,6 @@
 // Plans: a floorplan over any representation, with changes on trial.
+#![tactic(auto)]
+
 mod asking;
 mod decision;
 mod noted;

@@ -73,7 +73,7 @@ plain_kind =
       origin = 0;
       plus = λ a b. a + b;
       later = λ a b. cond (nat_le a b) b a;
-      at_most = leb;
+      at_most = nat_le;
       reach = λ a. a;
     }
 

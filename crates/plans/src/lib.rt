@@ -1,4 +1,6 @@
 // The theory of floorplans: what every crate above shares and is proved against.
+#![tactic(auto)]
+
 mod change;
 mod graphs;
 mod measures;

@@ -1,3 +1,5 @@
 // Tests of the crate `reading` on sheets whose load is refused.
+#![tactic(auto)]
+
 #[cfg(test)]
 mod refusals;

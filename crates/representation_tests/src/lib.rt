@@ -1,4 +1,6 @@
 // The same examples over every representation, and over layers of them.
+#![tactic(auto)]
+
 #[cfg(test)]
 mod examples;
 #[cfg(test)]

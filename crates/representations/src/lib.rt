@@ -1,4 +1,6 @@
 // Representations: what stands for one feasible floorplan, whatever it keeps.
+#![tactic(auto)]
+
 mod representation;
 mod transposed;
 

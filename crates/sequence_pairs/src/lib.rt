@@ -1,4 +1,6 @@
 // A representation by two sequences.
+#![tactic(auto)]
+
 mod changing;
 mod counting;
 mod loading;

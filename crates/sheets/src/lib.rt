@@ -1,4 +1,6 @@
 // The two sheets of a task: the sizes and the plan, parsed into lists, and the lines of the script.
+#![tactic(auto)]
+
 mod command;
 mod fault;
 mod field;

@@ -1,4 +1,6 @@
 // Tests of the crate `sheets` on the edges of its rules.
+#![tactic(auto)]
+
 #[cfg(test)]
 mod edges;
 #[cfg(test)]

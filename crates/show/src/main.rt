@@ -1,4 +1,6 @@
 // The program: reads sizes.txt and plan.txt in the current folder, and writes the listing.
+#![tactic(auto)]
+
 use anyhow::anyhow;
 use std::fs;
 use std::io::Write;

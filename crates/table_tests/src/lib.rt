@@ -1,4 +1,6 @@
 // The tests of a load: each refusal in its turn, with the graphs of a table that passes.
+#![tactic(auto)]
+
 mod build;
 mod closure;
 mod codes;

@@ -1,5 +1,7 @@
 // Times rounds of changes, packings and trials on 64 modules: counts to standard output, times to
 // standard error.
+#![tactic(auto)]
+
 mod rounds;
 
 use closure_graphs::ClosureGraphs;
