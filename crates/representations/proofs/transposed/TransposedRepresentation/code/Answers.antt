@@ -6,5 +6,5 @@ use Rattle.representations.proofs.transposed.TransposedRepresentation.code.Goals
 
 pub returns : goal.returns
 returns g c =
-    c.exchanged-code.ensures ∙ ap other_code c.code.ensures
+    c.exchanged_code.ensures ∙ ap other_code c.code.ensures
     ∙ sym (transpose_law.codes (g.R.Representation.means c.args.self.now.0) c.args.i c.args.j)

@@ -10,7 +10,7 @@ pub returns : goal.returns
 returns g c =
     let n = length c.args.codes.now in
     let whole : n - 0 ≡ n = omega arith in
-    follows_load (take (n - 0) c.exchange-codes.new.exchanged) c.args.codes.now c.args.sequence.now
+    follows_load (take (n - 0) c.exchange_codes.new.exchanged) c.args.codes.now c.args.sequence.now
     c.load.result (g.R.Representation.means c.args.self.now.0)
     (g.R.Representation.means c.load.new.self)
-    (ap (λ k. take k c.exchange-codes.new.exchanged) whole ∙ c.exchange-codes.ensures) c.load.ensures
+    (ap (λ k. take k c.exchange_codes.new.exchanged) whole ∙ c.exchange_codes.ensures) c.load.ensures

@@ -5,5 +5,5 @@ use Rattle.representations.proofs.transposed.TransposedRepresentation.move_edge.
 
 pub returns : goal.returns
 returns g c =
-    follows_change (MoveEdge c.args.a c.args.b) c.move-edge.result (g.R.Representation.means c.args.self.now.0)
-    (g.R.Representation.means c.move-edge.new.self) c.move-edge.ensures
+    follows_change (MoveEdge c.args.a c.args.b) c.move_edge.result (g.R.Representation.means c.args.self.now.0)
+    (g.R.Representation.means c.move_edge.new.self) c.move_edge.ensures
