@@ -9,11 +9,11 @@ pub returns-in-Right : goal.returns-in-Right
 returns-in-Right c =
     reverse_right (graph_table c.args.right.now c.args.above.now) c.args.a c.args.b
     (c.requires.found ∙ ap code_of c.in-Right.is) c.args.right.now c.args.above.now
-    c.reverse-edges.new.own c.reverse-edges.new.other c.requires.shown c.reverse-edges.ensures.own c.reverse-edges.ensures.other
+    c.reverse_edges.new.own c.reverse_edges.new.other c.requires.shown c.reverse_edges.ensures.own c.reverse_edges.ensures.other
 
 pub returns-in-Above : goal.returns-in-Above
 returns-in-Above c =
     reverse_above (graph_table c.args.right.now c.args.above.now) c.args.a c.args.b
     (c.requires.found ∙ ap code_of c.in-Above.is) c.args.right.now c.args.above.now
-    c.reverse-edges-in-Above.new.other c.reverse-edges-in-Above.new.own c.requires.shown
-    c.reverse-edges-in-Above.ensures.own c.reverse-edges-in-Above.ensures.other
+    c.reverse_edges-in-Above.new.other c.reverse_edges-in-Above.new.own c.requires.shown
+    c.reverse_edges-in-Above.ensures.own c.reverse_edges-in-Above.ensures.other

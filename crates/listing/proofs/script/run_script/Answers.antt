@@ -11,8 +11,8 @@ use Rattle.std.proofs.Common.{◌++◌, map, length, Ok, vec_items, sym, refl, a
 pub loop-read-init : goal.loop-read-init
 loop-read-init g c = (length c.args.sheet.now, omega arith, refl, c.requires)
 
-pub run-command-requires : goal.run-command-requires
-run-command-requires g c = c.loop-read.invariant.3
+pub run_command-requires : goal.run_command-requires
+run_command-requires g c = c.loop-read.invariant.3
 
 pub loop-read-smaller : goal.loop-read-smaller
 loop-read-smaller g c =
@@ -27,10 +27,10 @@ loop-read-preserved g c =
     let line = c.in-Some.line in
     let state = state_of g.R.Representation.means c.loop-read.plan in
     let listed = line_listed c.args.sheet c.loop-read.at sides state line inv.0 (subst (λ r. ReadsLine c.args.sheet c.loop-read.at (Ok r)) c.in-Some.is c.in-Ok.ensures.answer) inv.1 in
-    let did = c.in-ok-run-command.ensures in (
+    let did = c.in_ok-run_command.ensures in (
       listed.0,
       listed.1,
-      ap (λ t. vec_items c.run-command.new.out ++ lines_from sheet sides listed.0 line.next t) did.leads
+      ap (λ t. vec_items c.run_command.new.out ++ lines_from sheet sides listed.0 line.next t) did.leads
           ∙ written_on _ _ _ _ _ _ did.bytes listed.2 inv.2,
       did.hand,
     )
@@ -53,6 +53,6 @@ returns-in-Err g c =
     let state = state_of g.R.Representation.means c.loop-read.plan in
     let stopped = fault_listed_last c.args.sheet c.loop-read.at sides state c.in-Err.fault inv.0 c.in-Err.ensures.answer inv.1 in
     record {
-      bytes = c.in-ok-append-fault.ensures ∙ ap (λ xs. vec_items c.loop-read.out ++ xs) (sym stopped) ∙ inv.2;
+      bytes = c.in_ok-append_fault.ensures ∙ ap (λ xs. vec_items c.loop-read.out ++ xs) (sym stopped) ∙ inv.2;
       hand = inv.3;
     }

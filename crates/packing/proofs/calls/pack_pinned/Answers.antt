@@ -5,8 +5,8 @@ use Rattle.packing.specs.Calls.{PacksPinned}
 use Rattle.packing.specs.Tasks.{task_of}
 use Rattle.packing.proofs.calls.pack_pinned.Goals as goal
 
-pub returns-in-err-check-pin : goal.returns-in-err-check-pin
-returns-in-err-check-pin g c =
+pub returns-in_err-check_pin : goal.returns-in_err-check_pin
+returns-in_err-check_pin g c =
     let K = g.L.Length.kind in
     let x = c.args.representation.now in
     let t = task_of (g.R.Representation.means x) c.args.rotated c.args.sides.now in
@@ -14,8 +14,8 @@ returns-in-err-check-pin g c =
     let feasible = g.met.R.Representation.feasible x in
     let e = err_from_is_err_and c.from-residual.result c.from-residual.ensures.1 in
     let gives : PacksPinned K t before c.args.pin c.from-residual.result before =
-    rw (e.1, e.2) (pinned_refused K t before feasible c.args.pin c.in-err-check-pin.field-0.0
-    c.in-err-check-pin.ensures) in
+    rw (e.1, e.2) (pinned_refused K t before feasible c.args.pin c.in_err-check_pin.field-0.0
+    c.in_err-check_pin.ensures) in
     record {
       outcome = gives;
       least =

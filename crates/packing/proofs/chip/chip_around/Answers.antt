@@ -8,7 +8,7 @@ pub loop-i-preserved : goal.loop-i-preserved
 loop-i-preserved g c =
     let below : c.loop-i.i < length c.args.results.now = omega arith in
     far_more g.L.Length.kind c.args.results.now c.loop-i.i c.index-results-i.result c.loop-i.far
-    c.moved-out-far.result below c.index-results-i.is c.loop-i.invariant c.moved-out-far.ensures
+    c.moved_out-far.result below c.index-results-i.is c.loop-i.invariant c.moved_out-far.ensures
 
 pub returns : goal.returns
 returns g c =
@@ -16,4 +16,4 @@ returns g c =
     let results = c.args.results.now in
     let all : c.loop-i.i ≡ c.args.modules = omega arith in
     let holds : c.loop-i.far ≡ far_corner K results c.loop-i.i = c.loop-i.invariant in
-    c.chip-to.ensures ∙ ap (chip_to K) (holds ∙ ap (far_corner K results) all)
+    c.chip_to.ensures ∙ ap (chip_to K) (holds ∙ ap (far_corner K results) all)

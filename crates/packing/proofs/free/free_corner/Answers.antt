@@ -54,6 +54,6 @@ loop-earlier-preserved g c =
     listed p k c.in-Some.j c.args.place (length results) feasible c.loop-earlier-test.true c.requires.within
     c.requires.room stands in
     free_moved K p results k c.args.i c.in-Some.j c.code.result c.index-results-j.result
-    c.loop-earlier.free c.moved-past-free.result
+    c.loop-earlier.free c.moved_past-free.result
     (placed p k c.args.place feasible c.loop-earlier-test.true c.requires.within) below stands c.code.ensures
-    c.index-results-j.is c.loop-earlier.invariant c.moved-past-free.ensures
+    c.index-results-j.is c.loop-earlier.invariant c.moved_past-free.ensures

@@ -9,46 +9,46 @@ use Rattle.packing.specs.Steps.{Ready}
 use Rattle.packing.specs.Tasks.{task_of, pin_of}
 use Rattle.packing.proofs.pinned.pack_at.Goals as goal
 
-pub place-all-requires : goal.place-all-requires
-place-all-requires g c =
+pub place_all-requires : goal.place_all-requires
+place_all-requires g c =
     let K = g.L.Length.kind in
     let x = c.args.representation.now in
     let t = task_of (g.R.Representation.means x) c.args.rotated c.args.sides.now in
     ready_pinned K t c.args.results.now (g.met.R.Representation.feasible x) c.args.pin c.requires
 
-pub chip-around-requires : goal.chip-around-requires
-chip-around-requires g c =
+pub chip_around-requires : goal.chip_around-requires
+chip_around-requires g c =
     let x = c.args.representation.now in
     let t = task_of (g.R.Representation.means x) c.args.rotated c.args.sides.now in
     let ready =
     ready_pinned g.L.Length.kind t c.args.results.now (g.met.R.Representation.feasible x) c.args.pin c.requires in
     omega (arith, c.modules.ensures, ready.room)
 
-pub returns-then-place-all : goal.returns-then-place-all
-returns-then-place-all g c =
+pub returns-then-place_all : goal.returns-then-place_all
+returns-then-place_all g c =
     let K = g.L.Length.kind in
     let x = c.args.representation.now in
     let t = task_of (g.R.Representation.means x) c.args.rotated c.args.sides.now in
     let before = c.args.results.now in
-    let after = c.place-all.new.results in
+    let after = c.place_all.new.results in
     let feasible = g.met.R.Representation.feasible x in
-    let place = some_place c.place-all.result (no_place K t (pin_of c.args.pin)) c.place-all.ensures.fits c.if-place-all.true in
+    let place = some_place c.place_all.result (no_place K t (pin_of c.args.pin)) c.place_all.ensures.fits c.if-place_all.true in
     let gives =
     pinned_done K t before feasible c.args.pin c.requires place c.modules.result
-    c.chip-around.result after c.modules.ensures c.place-all.ensures.list c.chip-around.ensures in (
+    c.chip_around.result after c.modules.ensures c.place_all.ensures.list c.chip_around.ensures in (
       gives,
-      pinned_shows K t before feasible c.args.pin g.met.L.Length.lawful (Ok c.chip-around.result) after gives,
+      pinned_shows K t before feasible c.args.pin g.met.L.Length.lawful (Ok c.chip_around.result) after gives,
     )
 
-pub place-all-requires-2 : goal.place-all-requires-2
-place-all-requires-2 g c =
+pub place_all-requires-2 : goal.place_all-requires-2
+place_all-requires-2 g c =
     let K = g.L.Length.kind in
     let x = c.args.representation.now in
     let t = task_of (g.R.Representation.means x) c.args.rotated c.args.sides.now in
     let before = c.args.results.now in
     let p = c.args.pin in
     let none = (not_refused_pinned K t before p.«module» p.across p.up c.requires).0 in
-    let kept : length before ≡ length c.place-all.new.results = omega arith in
+    let kept : length before ≡ length c.place_all.new.results = omega arith in
     subst (λ n. Ready K t no_pins n) kept (ready_free K t before (g.met.R.Representation.feasible x) none)
 
 pub returns : goal.returns
@@ -57,13 +57,13 @@ returns g c =
     let x = c.args.representation.now in
     let t = task_of (g.R.Representation.means x) c.args.rotated c.args.sides.now in
     let before = c.args.results.now in
-    let first = c.place-all.new.results in
-    let after = c.place-all-2.new.results in
+    let first = c.place_all.new.results in
+    let after = c.place_all-2.new.results in
     let feasible = g.met.R.Representation.feasible x in
-    let stuck = not_placed c.place-all.result (no_place K t (pin_of c.args.pin)) c.place-all.ensures.fits c.if-place-all.false in
+    let stuck = not_placed c.place_all.result (no_place K t (pin_of c.args.pin)) c.place_all.ensures.fits c.if-place_all.false in
     let gives =
-    pinned_nowhere K t before feasible c.args.pin c.requires stuck first after c.place-all.ensures.list
-    c.place-all-2.ensures.list in (
+    pinned_nowhere K t before feasible c.args.pin c.requires stuck first after c.place_all.ensures.list
+    c.place_all-2.ensures.list in (
       gives,
       pinned_shows K t before feasible c.args.pin g.met.L.Length.lawful (Err NoPlace) after gives,
     )

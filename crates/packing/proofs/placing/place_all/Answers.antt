@@ -7,8 +7,8 @@ use Rattle.packing.specs.Tasks.{task_of, pins_of}
 use Rattle.packing.proofs.placing.place_all.Goals as goal
 use Rattle.packing.proofs.placing.place_all.Goals.{then-not-place-module, else-not-place-module}
 
-pub place-module-requires : goal.place-module-requires
-place-module-requires g c =
+pub place_module-requires : goal.place_module-requires
+place_module-requires g c =
     let K = g.L.Length.kind in
     let plan = g.R.Representation.means c.args.representation.now in
     let t = task_of plan c.args.rotated c.args.sides.now in
@@ -28,15 +28,15 @@ loop-place-preserved g c =
     let less : k < plan.size = omega (arith, c.modules-place-end.ensures, c.loop-place-test.true) in
     let more =
     reached_more K t pins _ c.requires k c.args.results.now c.loop-place.results less refl c.loop-place.invariant.0 in (
-      rw c.place-module.ensures.list more,
-      elim c.if-not-place-module.branch [
-        | then-not-place-module w ↦
-            some_failed k (λ l. pushed_at K t pins (at_place plan l)) c.if-not-place-module.fits c.place-module.result
-            w.fits-is c.place-module.ensures.fits w.if-not-place-module.true
-        | else-not-place-module w ↦
-            none_failed k (λ l. pushed_at K t pins (at_place plan l)) c.loop-place.fits c.if-not-place-module.fits
-            c.place-module.result c.loop-place.invariant.1 w.fits-is c.place-module.ensures.fits
-            w.if-not-place-module.false
+      rw c.place_module.ensures.list more,
+      elim c.if-not-place_module.branch [
+        | then-not-place_module w ↦
+            some_failed k (λ l. pushed_at K t pins (at_place plan l)) c.if-not-place_module.fits c.place_module.result
+            w.fits-is c.place_module.ensures.fits w.if-not-place_module.true
+        | else-not-place_module w ↦
+            none_failed k (λ l. pushed_at K t pins (at_place plan l)) c.loop-place.fits c.if-not-place_module.fits
+            c.place_module.result c.loop-place.invariant.1 w.fits-is c.place_module.ensures.fits
+            w.if-not-place_module.false
       ],
     )
 

@@ -11,8 +11,8 @@ unreachable-requires g c =
     let within : c.args.place < length p.sequence = omega (arith, c.requires.ready.packable.feasible.fits.long, c.requires.within) in
     module_missing p c.args.place c.module_at_lem.result within c.module_at_lem.ensures c.in-default.is
 
-pub free-corner-free-requires : goal.free-corner-free-requires
-free-corner-free-requires g c = record { within = omega (arith, c.requires.within); room = c.requires.ready.room }
+pub free_corner-free-requires : goal.free_corner-free-requires
+free_corner-free-requires g c = record { within = omega (arith, c.requires.within); room = c.requires.ready.room }
 
 pub offset-bounds-sides-i : goal.offset-bounds-sides-i
 offset-bounds-sides-i g c =
@@ -33,8 +33,8 @@ bounds-sides-i g c =
 pub contains-requires : goal.contains-requires
 contains-requires g c = tt
 
-pub write-record-requires : goal.write-record-requires
-write-record-requires g c =
+pub write_record-requires : goal.write_record-requires
+write_record-requires g c =
     let p = g.R.Representation.means c.args.representation.now in
     let inside =
     module_inside p c.requires.ready.packable.feasible c.args.place c.in-Some.i c.module_at_lem.result
@@ -54,13 +54,13 @@ returns g c =
     let stands = module_stands p k i c.module_at_lem.result c.module_at_lem.ensures c.in-Some.is in
     let new =
     record_packed K law t pins (length results) c.requires.ready results k i c.requires.within stands c.requires.filled
-    c.free-corner-free.result c.near-corner-near.result c.free-corner-free.ensures c.near-corner-near.ensures
-    c.index-sides-i.result c.rotated-sides-side.result c.contains.result c.record-at.result
-    c.index-sides-i.is c.contains.ensures c.rotated-sides-side.ensures c.record-at.ensures in
+    c.free_corner-free.result c.near_corner-near.result c.free_corner-free.ensures c.near_corner-near.ensures
+    c.index-sides-i.result c.rotated_sides-side.result c.contains.result c.record_at.result
+    c.index-sides-i.is c.contains.ensures c.rotated_sides-side.ensures c.record_at.ensures in
     let fits =
     corner_fits K law t pins (length results) c.requires.ready results k i c.requires.within stands c.requires.filled
-    c.free-corner-free.result c.near-corner-near.result c.free-corner-free.ensures c.near-corner-near.ensures in
+    c.free_corner-free.result c.near_corner-near.result c.free_corner-free.ensures c.near_corner-near.ensures in
     module_placed K law t pins (length results) c.requires.ready results k i c.requires.within stands c.requires.filled
-    c.record-at.result c.write-record.new.results c.is-at-most.result
-    (corner_at_most K c.free-corner-free.result c.near-corner-near.result) new fits c.write-record.ensures
-    c.is-at-most.ensures
+    c.record_at.result c.write_record.new.results c.is_at_most.result
+    (corner_at_most K c.free_corner-free.result c.near_corner-near.result) new fits c.write_record.ensures
+    c.is_at_most.ensures

@@ -10,17 +10,17 @@ use Rattle.reading.proofs.whole.read.Given as given
 use Rattle.reading.proofs.whole.read.Goals as goal
 use Rattle.reading.proofs.whole.read.Goals.{In-ok-parsed}
 
-pub returns-in-err-parsed : goal.returns-in-err-parsed
-returns-in-err-parsed g c =
+pub returns-in_err-parsed : goal.returns-in_err-parsed
+returns-in_err-parsed g c =
     let p = err_from_is_err_and c.from-residual.result c.from-residual.ensures.1 in
     let o = first (checks_for c.args.sizes.now c.args.plan.now (held c.args.sides c.args.codes c.args.places)) in
-    let fault = c.in-err-parsed.field-0.0 in
-    let answer = c.in-err-parsed.ensures.answer in
+    let fault = c.in_err-parsed.field-0.0 in
+    let answer = c.in_err-parsed.ensures.answer in
     record {
       answer = rw (p.1, p.2) (parse_fault c.args.sizes c.args.plan o (load_fault c.args.plan.now) fault answer);
-      lists = c.in-err-parsed.ensures.lists;
+      lists = c.in_err-parsed.ensures.lists;
       meaning = parse_fault_keeps c.args.sizes c.args.plan o (load_fault c.args.plan.now) fault _ answer;
-      law = rw (p.1, p.2) (inl c.in-err-parsed.ensures.law);
+      law = rw (p.1, p.2) (inl c.in_err-parsed.ensures.law);
     }
 
 -- what the parsing left, on every way behind it
@@ -28,17 +28,17 @@ after_parsing :
     (g : given.Over) (c : In-ok-parsed g)
     → Done c.args.sizes c.args.plan (held c.args.sides c.args.codes c.args.places)
     (record { sides = c.parse.new.sides; codes = c.parse.new.codes; places = c.parse.new.places })
-    c.in-ok-parsed.parsed
+    c.in_ok-parsed.parsed
 after_parsing g c = record {
-  answered = c.in-ok-parsed.ensures.answer;
-  left = c.in-ok-parsed.ensures.lists;
+  answered = c.in_ok-parsed.ensures.answer;
+  left = c.in_ok-parsed.ensures.lists;
   codes_kept = c.parse.auto.codes;
   places_kept = c.parse.auto.places;
 }
 
-pub load-front-requires : goal.load-front-requires
-load-front-requires g c =
-    let d = after_parsing g (goal.at.load-front-requires g c).In-ok-parsed in
+pub load_front-requires : goal.load_front-requires
+load_front-requires g c =
+    let d = after_parsing g (goal.at.load_front-requires g c).In-ok-parsed in
     record { room = (codes_end d, places_end d) }
 
 pub refused-requires : goal.refused-requires

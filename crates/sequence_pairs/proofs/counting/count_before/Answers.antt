@@ -14,11 +14,11 @@ overflow-add-before c =
 pub loop-i-preserved : goal.loop-i-preserved
 loop-i-preserved c =
     let passes : ℕ → Bool = λ x. stands_before c.args.which (table_of c.args.count c.args.codes.now) x c.args.j in
-    elim c.if-stands-before.branch [
-      | then-stands-before w ↦
-          count_step c.loop-i.i passes c.loop-i.before c.if-stands-before.before true
-          (sym c.stands-before.ensures ∙ w.if-stands-before.true) c.loop-i.invariant w.before-is
-      | else-stands-before w ↦
-          count_step c.loop-i.i passes c.loop-i.before c.if-stands-before.before false
-          (sym c.stands-before.ensures ∙ w.if-stands-before.false) c.loop-i.invariant (omega (arith, w.before-is))
+    elim c.if-stands_before.branch [
+      | then-stands_before w ↦
+          count_step c.loop-i.i passes c.loop-i.before c.if-stands_before.before true
+          (sym c.stands_before.ensures ∙ w.if-stands_before.true) c.loop-i.invariant w.before-is
+      | else-stands_before w ↦
+          count_step c.loop-i.i passes c.loop-i.before c.if-stands_before.before false
+          (sym c.stands_before.ensures ∙ w.if-stands_before.false) c.loop-i.invariant (omega (arith, w.before-is))
     ]

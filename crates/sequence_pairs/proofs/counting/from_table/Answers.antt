@@ -6,25 +6,25 @@ use Rattle.sequence_pairs.specs.Counting.{stands_before}
 use Rattle.sequence_pairs.specs.declared.counting.Which.TheVariants.{Packing, Other}
 use Rattle.sequence_pairs.proofs.counting.from_table.Goals as goal
 
-pub modules-at-packing-requires : goal.modules-at-packing-requires
-modules-at-packing-requires c =
+pub modules_at-packing-requires : goal.modules_at-packing-requires
+modules_at-packing-requires c =
     let t = table_of c.args.count c.args.codes.now in (
       c.requires.0.0,
       (
-        c.places-in-packing-places.ensures.long,
+        c.places_in-packing_places.ensures.long,
         counted_distinct c.args.count (stands_before Packing t) (stands_order c.args.count t c.requires.1 Packing)
-            c.places-in-packing-places.result c.places-in-packing-places.ensures.counted,
+            c.places_in-packing_places.result c.places_in-packing_places.ensures.counted,
       ),
     )
 
-pub modules-at-other-requires : goal.modules-at-other-requires
-modules-at-other-requires c =
+pub modules_at-other-requires : goal.modules_at-other-requires
+modules_at-other-requires c =
     let t = table_of c.args.count c.args.codes.now in (
       c.requires.0.0,
       (
-        c.places-in-other-places.ensures.long,
+        c.places_in-other_places.ensures.long,
         counted_distinct c.args.count (stands_before Other t) (stands_order c.args.count t c.requires.1 Other)
-            c.places-in-other-places.result c.places-in-other-places.ensures.counted,
+            c.places_in-other_places.result c.places_in-other_places.ensures.counted,
       ),
     )
 
@@ -32,11 +32,11 @@ pub returns : goal.returns
 returns c =
     let t = table_of c.args.count c.args.codes.now in
     let few = c.requires.0.0 in
-    counted_plan_lem c.args.count c.args.codes.now c.modules-at-other.result c.modules-at-packing.result
+    counted_plan_lem c.args.count c.args.codes.now c.modules_at-other.result c.modules_at-packing.result
     c.requires.0 c.requires.1
     (counted_ordered c.args.count (stands_before Other t) (stands_order c.args.count t c.requires.1 Other)
-    c.places-in-other-places.result c.places-in-other-places.ensures.counted c.modules-at-other.result
-    (omega (arith, c.modules-at-other.ensures.long)) c.modules-at-other.ensures.at)
+    c.places_in-other_places.result c.places_in-other_places.ensures.counted c.modules_at-other.result
+    (omega (arith, c.modules_at-other.ensures.long)) c.modules_at-other.ensures.at)
     (counted_ordered c.args.count (stands_before Packing t) (stands_order c.args.count t c.requires.1 Packing)
-    c.places-in-packing-places.result c.places-in-packing-places.ensures.counted c.modules-at-packing.result
-    (omega (arith, c.modules-at-packing.ensures.long)) c.modules-at-packing.ensures.at)
+    c.places_in-packing_places.result c.places_in-packing_places.ensures.counted c.modules_at-packing.result
+    (omega (arith, c.modules_at-packing.ensures.long)) c.modules_at-packing.ensures.at)

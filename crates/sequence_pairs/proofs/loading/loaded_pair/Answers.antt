@@ -5,13 +5,13 @@ use Rattle.plans.specs.LoadLaw.{given}
 use Rattle.sequence_pairs.proofs.Counted.{refit}
 use Rattle.sequence_pairs.proofs.loading.loaded_pair.Goals as goal
 
-pub from-table-requires : goal.from-table-requires
-from-table-requires c =
-    let f = load_feasible c.args.codes.now c.args.sequence.now c.in-ok--graphs.ensures.0 in
+pub from_table-requires : goal.from_table-requires
+from_table-requires c =
+    let f = load_feasible c.args.codes.now c.args.sequence.now c.in_ok--graphs.ensures.0 in
     ((f.table.few, f.full), f.table)
 
 pub returns : goal.returns
 returns c =
-    let none = c.in-ok--graphs.ensures.0 in
+    let none = c.in_ok--graphs.ensures.0 in
     let f = load_feasible c.args.codes.now c.args.sequence.now none in
-    (none, c.from-table.ensures ∙ refit (given c.args.codes.now c.args.sequence.now) f)
+    (none, c.from_table.ensures ∙ refit (given c.args.codes.now c.args.sequence.now) f)

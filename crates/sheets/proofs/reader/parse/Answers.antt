@@ -20,7 +20,7 @@ returns-in-Err c =
     let f = c.in-Err.finding in
     let e = c.in-Err.ensures.found.0 in
     record {
-      answer = subst (λ o. AnswersBy c.args.sizes c.args.plan o (Err c.lend-from.result)) (sym e) c.lend-from.ensures;
+      answer = subst (λ o. AnswersBy c.args.sizes c.args.plan o (Err c.lend_from.result)) (sym e) c.lend_from.ensures;
       lists = c.in-Err.ensures.lists;
-      law = (f, stands_first (checks_for c.args.sizes.now c.args.plan.now before) f e, c.lend-from.ensures);
+      law = (f, stands_first (checks_for c.args.sizes.now c.args.plan.now before) f e, c.lend_from.ensures);
     }

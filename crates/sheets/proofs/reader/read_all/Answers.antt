@@ -15,68 +15,68 @@ use Rattle.sheets.proofs.reader.read_all.Goals as goal
 inside : (sizes plan : List ℕ) (name : Sheet) (f : Finding) → f.sheet ≡ name → f.from + f.width ≤ length (of_sheet sizes plan name) → f.from + f.width ≤ length (of_sheet sizes plan f.sheet)
 inside sizes plan name f e h = subst (λ s. f.from + f.width ≤ length (of_sheet sizes plan s)) (sym e) h
 
-pub returns-in-err-check-lengths : goal.returns-in-err-check-lengths
-returns-in-err-check-lengths c =
+pub returns-in_err-check_lengths : goal.returns-in_err-check_lengths
+returns-in_err-check_lengths c =
     let p = err_from_is_err_and c.from-residual.result c.from-residual.ensures.1 in
-    let found = c.in-err-check-lengths.ensures in
+    let found = c.in_err-check_lengths.ensures in
     rw (p.1, p.2) (length_fault c.args.sizes.now c.args.plan.now _ found.0, found.1, found.2)
 
-pub returns-in-err-head : goal.returns-in-err-head
-returns-in-err-head c =
-    let p = err_from_is_err_and c.from-residual-in-err-head.result c.from-residual-in-err-head.ensures.1 in
+pub returns-in_err-head : goal.returns-in_err-head
+returns-in_err-head c =
+    let p = err_from_is_err_and c.from-residual-in_err-head.result c.from-residual-in_err-head.ensures.1 in
     let sizes = c.args.sizes.now in
     let plan = c.args.plan.now in
-    let lies = c.in-err-head.ensures.1 in
+    let lies = c.in_err-head.ensures.1 in
     rw (p.1, p.2) (
-      head_fault sizes plan _ c.in-ok-check-lengths.ensures c.in-err-head.ensures.0,
-      inside sizes plan _ c.in-err-head.field-0.0 lies.0 lies.1,
+      head_fault sizes plan _ c.in_ok-check_lengths.ensures c.in_err-head.ensures.0,
+      inside sizes plan _ c.in_err-head.field-0.0 lies.0 lies.1,
       lies.2,
     )
 
-pub returns-in-err-read-sizes : goal.returns-in-err-read-sizes
-returns-in-err-read-sizes c =
-    let p = err_from_is_err_and c.from-residual-in-err-read-sizes.result c.from-residual-in-err-read-sizes.ensures.1 in
+pub returns-in_err-read_sizes : goal.returns-in_err-read_sizes
+returns-in_err-read_sizes c =
+    let p = err_from_is_err_and c.from-residual-in_err-read_sizes.result c.from-residual-in_err-read_sizes.ensures.1 in
     let sizes = c.args.sizes.now in
     let plan = c.args.plan.now in
-    let head = c.in-ok-head.ensures in
-    let lies = c.in-err-read-sizes.ensures.1 in
+    let head = c.in_ok-head.ensures in
+    let lies = c.in_err-read_sizes.ensures.1 in
     rw (p.1, p.2) (
-      head_passed sizes plan c.in-ok-check-lengths.ensures head.0 ∙ sizes_fault sizes plan c.in-ok-head.modules _ head.1.1 c.in-err-read-sizes.ensures.0,
-      inside sizes plan _ c.in-err-read-sizes.field-0.0 lies.0 lies.1,
+      head_passed sizes plan c.in_ok-check_lengths.ensures head.0 ∙ sizes_fault sizes plan c.in_ok-head.modules _ head.1.1 c.in_err-read_sizes.ensures.0,
+      inside sizes plan _ c.in_err-read_sizes.field-0.0 lies.0 lies.1,
       lies.2,
     )
 
-pub returns-in-err-start : goal.returns-in-err-start
-returns-in-err-start c =
-    let p = err_from_is_err_and c.from-residual-in-err-start.result c.from-residual-in-err-start.ensures.1 in
+pub returns-in_err-start : goal.returns-in_err-start
+returns-in_err-start c =
+    let p = err_from_is_err_and c.from-residual-in_err-start.result c.from-residual-in_err-start.ensures.1 in
     let sizes = c.args.sizes.now in
     let plan = c.args.plan.now in
-    let m = c.in-ok-head.modules in
-    let head = c.in-ok-head.ensures in
-    let lies = c.in-err-start.ensures.1 in
+    let m = c.in_ok-head.modules in
+    let head = c.in_ok-head.ensures in
+    let lies = c.in_err-start.ensures.1 in
     rw (p.1, p.2) (
-      head_passed sizes plan c.in-ok-check-lengths.ensures head.0
-          ∙ sizes_passed sizes plan m head.1.1 c.in-ok-read-sizes.ensures.0
-          ∙ rows_fault plan m _ head.1.1 c.in-err-start.ensures.0,
-      inside sizes plan _ c.in-err-start.field-0.0 lies.0 lies.1,
+      head_passed sizes plan c.in_ok-check_lengths.ensures head.0
+          ∙ sizes_passed sizes plan m head.1.1 c.in_ok-read_sizes.ensures.0
+          ∙ rows_fault plan m _ head.1.1 c.in_err-start.ensures.0,
+      inside sizes plan _ c.in_err-start.field-0.0 lies.0 lies.1,
       lies.2,
     )
 
-pub returns-in-err-read-sequence : goal.returns-in-err-read-sequence
-returns-in-err-read-sequence c =
-    let p = err_from_is_err_and c.from-residual-in-err-read-sequence.result c.from-residual-in-err-read-sequence.ensures.1 in
+pub returns-in_err-read_sequence : goal.returns-in_err-read_sequence
+returns-in_err-read_sequence c =
+    let p = err_from_is_err_and c.from-residual-in_err-read_sequence.result c.from-residual-in_err-read_sequence.ensures.1 in
     let sizes = c.args.sizes.now in
     let plan = c.args.plan.now in
-    let m = c.in-ok-head.modules in
-    let head = c.in-ok-head.ensures in
-    let rows = c.in-ok-start.ensures in
-    let lies = c.in-err-read-sequence.ensures.1 in
+    let m = c.in_ok-head.modules in
+    let head = c.in_ok-head.ensures in
+    let rows = c.in_ok-start.ensures in
+    let lies = c.in_err-read_sequence.ensures.1 in
     rw (p.1, p.2) (
-      head_passed sizes plan c.in-ok-check-lengths.ensures head.0
-          ∙ sizes_passed sizes plan m head.1.1 c.in-ok-read-sizes.ensures.0
-          ∙ rows_passed plan m c.in-ok-start.start head.1.1 rows.0 rows.1.0
-          ∙ c.in-err-read-sequence.ensures.0,
-      inside sizes plan _ c.in-err-read-sequence.field-0.0 lies.0 lies.1,
+      head_passed sizes plan c.in_ok-check_lengths.ensures head.0
+          ∙ sizes_passed sizes plan m head.1.1 c.in_ok-read_sizes.ensures.0
+          ∙ rows_passed plan m c.in_ok-start.start head.1.1 rows.0 rows.1.0
+          ∙ c.in_err-read_sequence.ensures.0,
+      inside sizes plan _ c.in_err-read_sequence.field-0.0 lies.0 lies.1,
       lies.2,
     )
 
@@ -84,25 +84,25 @@ pub returns : goal.returns
 returns c =
     let sizes = c.args.sizes.now in
     let plan = c.args.plan.now in
-    let m = c.in-ok-head.modules in
-    let start = c.in-ok-start.start in
-    let head = c.in-ok-head.ensures in
-    let rows = c.in-ok-start.ensures in
-    let last = c.in-ok-read-sequence.ensures in
+    let m = c.in_ok-head.modules in
+    let start = c.in_ok-start.start in
+    let head = c.in_ok-head.ensures in
+    let rows = c.in_ok-start.ensures in
+    let last = c.in_ok-read_sequence.ensures in
     let e : m ≡ modules_of plan = head.1.1 in
     let at : start ≡ line_start plan (m + 1) = rows.1.0 in
     let behind : line_start plan (m + 1 + 1) ≡ start + 4 * m + 1 = line_start_more plan (m + 1) ∙ ap (next_line plan) (sym at) ∙ last.1.1.0 in
     let two : m + 1 + 1 ≡ modules_of plan + 2 = omega arith in (
-      head_passed sizes plan c.in-ok-check-lengths.ensures head.0
-          ∙ sizes_passed sizes plan m e c.in-ok-read-sizes.ensures.0
+      head_passed sizes plan c.in_ok-check_lengths.ensures head.0
+          ∙ sizes_passed sizes plan m e c.in_ok-read_sizes.ensures.0
           ∙ rows_passed plan m start e rows.0 at
           ∙ last.0,
       record { head = head.1.0; modules = e; offset = sym behind ∙ ap (line_start plan) two; line = ap (λ x. x + 3) e },
       record {
-        sides_read_lem = subst (λ x. Filled (sides_of 0 0) (sides_read sizes) x c.read-sizes.new.sides) e c.in-ok-read-sizes.ensures.1;
-        codes_read = subst (λ x. Filled 0 (code_read plan x) (x * x) c.read-rows.new.codes) e rows.1.2;
+        sides_read_lem = subst (λ x. Filled (sides_of 0 0) (sides_read sizes) x c.read_sizes.new.sides) e c.in_ok-read_sizes.ensures.1;
+        codes_read = subst (λ x. Filled 0 (code_read plan x) (x * x) c.read_rows.new.codes) e rows.1.2;
         places_read =
-            subst (λ x. Filled 0 (λ k. number_at plan (line_start plan (x + 1) + 4 * k) 4) x c.read-sequence.new.places) e
-            (subst (λ x. Filled 0 (λ k. number_at plan (x + 4 * k) 4) m c.read-sequence.new.places) at last.1.0);
+            subst (λ x. Filled 0 (λ k. number_at plan (line_start plan (x + 1) + 4 * k) 4) x c.read_sequence.new.places) e
+            (subst (λ x. Filled 0 (λ k. number_at plan (x + 4 * k) 4) m c.read_sequence.new.places) at last.1.0);
       },
     )

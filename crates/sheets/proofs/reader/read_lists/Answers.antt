@@ -17,7 +17,7 @@ returns-in-Ok c =
     let plan = c.args.plan.now in
     let done = c.in-Ok.ensures in
     let before : Held = record { sides = c.args.sides.now; codes = c.args.codes.now; places = c.args.places.now } in
-    let after : Held = record { sides = c.read-all.new.sides; codes = c.read-all.new.codes; places = c.read-all.new.places } in
+    let after : Held = record { sides = c.read_all.new.sides; codes = c.read_all.new.codes; places = c.read_all.new.places } in
     let e : first (checks_for sizes plan before) ≡ None =
     first_rest (list_checks (length before.sides) (length before.codes) (length before.places)) (sheet_checks sizes plan) (sym c.in-default.ensures.exact) ∙ done.0 in
     record { found = (e, done.1); lists = subst (λ o. LeavesBy sizes plan o before after) (sym e) done.2 }
@@ -28,9 +28,9 @@ returns-in-Err c =
     let plan = c.args.plan.now in
     let f = c.in-Err.finding in
     let found = c.in-Err.ensures in
-    let clear = c.clear-all-in-Err.ensures in
+    let clear = c.clear_all-in-Err.ensures in
     let before : Held = record { sides = c.args.sides.now; codes = c.args.codes.now; places = c.args.places.now } in
-    let after : Held = record { sides = c.clear-all-in-Err.new.sides; codes = c.clear-all-in-Err.new.codes; places = c.clear-all-in-Err.new.places } in
+    let after : Held = record { sides = c.clear_all-in-Err.new.sides; codes = c.clear_all-in-Err.new.codes; places = c.clear_all-in-Err.new.places } in
     let e : first (checks_for sizes plan before) ≡ Some f =
     first_rest (list_checks (length before.sides) (length before.codes) (length before.places)) (sheet_checks sizes plan) (sym c.in-default.ensures.exact) ∙ found.0 in
     record {

@@ -8,8 +8,8 @@ use Rattle.sheets.specs.Reading.{list_checks}
 use Rattle.sheets.proofs.RoomLemmas.{too_short}
 use Rattle.sheets.proofs.reader.short_list.Goals as goal
 
-pub returns-then-sides-lt-MOST-MODULES : goal.returns-then-sides-lt-MOST-MODULES
-returns-then-sides-lt-MOST-MODULES c =
+pub returns-then-sides-lt-MOST_MODULES : goal.returns-then-sides-lt-MOST_MODULES
+returns-then-sides-lt-MOST_MODULES c =
     let sides = c.args.sides in
     let codes = c.args.codes in
     let places = c.args.places in

@@ -18,9 +18,9 @@ returns-in-default c =
     let start = c.args.start in
     let m = c.args.modules in
     let j = c.loop-j.j in
-    let inside : start + m < length plan = c.if-not-has-width.ensures.within tt in
+    let inside : start + m < length plan = c.if-not-has_width.ensures.within tt in
     rw c.field.ensures (
-      line_passed plan start m (line_finding sheets.Plan line) (each m (letter_checks plan line start)) c.if-not-has-width.ensures.exact
+      line_passed plan start m (line_finding sheets.Plan line) (each m (letter_checks plan line start)) c.if-not-has_width.ensures.exact
           ∙ loop-fault (letter_checks plan line start) j m (field_finding UnknownWord sheets.Plan line start j 1) c.loop-j.invariant.0 c.loop-j-test.true
           (single_fault (letter_code (get_or plan (start + j) 0)) (field_finding UnknownWord sheets.Plan line start j 1) c.in-default.ensures),
       (refl, omega arith, refl),

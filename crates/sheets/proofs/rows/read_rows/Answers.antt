@@ -9,8 +9,8 @@ use Rattle.sheets.proofs.ListLemmas.{row_room, row_more, row_codes}
 use Rattle.sheets.proofs.StageLemmas.{loop-fault, loop-more}
 use Rattle.sheets.proofs.rows.read_rows.Goals as goal
 
-pub read-row-requires : goal.read-row-requires
-read-row-requires c =
+pub read_row-requires : goal.read_row-requires
+read_row-requires c =
     let base = c.loop-i.invariant.3 in
     record {
       starts = c.loop-i.invariant.2;
@@ -19,16 +19,16 @@ read-row-requires c =
       before = c.loop-i.invariant.4;
     }
 
-pub returns-in-err-read-row : goal.returns-in-err-read-row
-returns-in-err-read-row c =
+pub returns-in_err-read_row : goal.returns-in_err-read_row
+returns-in_err-read_row c =
     let p = err_from_is_err_and c.from-residual.result c.from-residual.ensures.1 in
     let plan = c.args.plan.now in
     let m = c.args.modules in
     let i = c.loop-i.i in
-    let e : first (module_row_checks plan m i) ≡ Some c.in-err-read-row.field-0.0 =
-    ap (λ s. first (row_checks plan m (i + 2) s)) (sym c.loop-i.invariant.1) ∙ c.in-err-read-row.ensures.0 in
+    let e : first (module_row_checks plan m i) ≡ Some c.in_err-read_row.field-0.0 =
+    ap (λ s. first (row_checks plan m (i + 2) s)) (sym c.loop-i.invariant.1) ∙ c.in_err-read_row.ensures.0 in
     rw (p.1, p.2)
-    (loop-fault (module_row_checks plan m) i m _ c.loop-i.invariant.0 c.loop-i-test.true e, c.in-err-read-row.ensures.1)
+    (loop-fault (module_row_checks plan m) i m _ c.loop-i.invariant.0 c.loop-i-test.true e, c.in_err-read_row.ensures.1)
 
 pub loop-i-preserved : goal.loop-i-preserved
 loop-i-preserved c =
@@ -37,9 +37,9 @@ loop-i-preserved c =
     let i = c.loop-i.i in
     let at = c.loop-i.invariant.1 in
     let base = c.loop-i.invariant.3 in
-    let done = c.in-ok-read-row.ensures.1 in
+    let done = c.in_ok-read_row.ensures.1 in
     let passed = done.1 in
-    let e : first (module_row_checks plan m i) ≡ None = ap (λ s. first (row_checks plan m (i + 2) s)) (sym at) ∙ c.in-ok-read-row.ensures.0 in
+    let e : first (module_row_checks plan m i) ≡ None = ap (λ s. first (row_checks plan m (i + 2) s)) (sym at) ∙ c.in_ok-read_row.ensures.0 in
     let q : line_start plan (i + 1 + 1) ≡ c.loop-i.start + m + 1 = line_start_more plan (i + 1) ∙ ap (next_line plan) (sym at) ∙ passed.0 in (
       loop-more (module_row_checks plan m) i m c.loop-i.invariant.0 c.loop-i-test.true e,
       omega arith,

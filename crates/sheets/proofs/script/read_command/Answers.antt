@@ -17,7 +17,7 @@ returns-in-Ok c =
     let cs = script_checks plan at.line at.offset in
     let r : Result (Option ScriptLine) Fault = Ok (Some c.in-Ok.line) in
     let none : Result (Option ScriptLine) Fault = Ok None in
-    let here : true ≡ goes_on plan at.offset = c.if-not-goes-on.ensures in
+    let here : true ≡ goes_on plan at.offset = c.if-not-goes_on.ensures in
     let e : first cs ≡ None = c.in-Ok.ensures.0 in
     let by : ByFirst c.args.plan at (first cs) r = subst (λ o. ByFirst c.args.plan at o r) (sym e) (ap (λ l. Ok (Some l)) c.in-Ok.ensures.1) in
     record {
@@ -33,7 +33,7 @@ returns-in-Err c =
     let f = c.in-Err.finding in
     let r : Result (Option ScriptLine) Fault = Err c.lend.result in
     let none : Result (Option ScriptLine) Fault = Ok None in
-    let here : true ≡ goes_on plan at.offset = c.if-not-goes-on.ensures in
+    let here : true ≡ goes_on plan at.offset = c.if-not-goes_on.ensures in
     let e : first cs ≡ Some f = c.in-Err.ensures.0 in
     let by : ByFirst c.args.plan at (first cs) r = subst (λ o. ByFirst c.args.plan at o r) (sym e) c.lend.ensures in
     record {

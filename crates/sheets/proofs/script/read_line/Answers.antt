@@ -9,36 +9,36 @@ pub returns-in-default : goal.returns-in-default
 returns-in-default c =
     let plan = c.args.plan.now in
     let s = c.args.at.offset in
-    let wide : 4 ≤ width_at plan s = omega (arith, c.line-width.ensures.exact) in
-    rw c.field.ensures (word_unknown plan c.args.at.line s wide c.in-default.ensures, (refl, omega (arith, c.line-width.ensures.within), refl))
+    let wide : 4 ≤ width_at plan s = omega (arith, c.line_width.ensures.exact) in
+    rw c.field.ensures (word_unknown plan c.args.at.line s wide c.in-default.ensures, (refl, omega (arith, c.line_width.ensures.within), refl))
 
-pub returns-in-err-a : goal.returns-in-err-a
-returns-in-err-a c =
+pub returns-in_err-a : goal.returns-in_err-a
+returns-in_err-a c =
     let p = err_from_is_err_and c.from-residual.result c.from-residual.ensures.1 in
     let plan = c.args.plan.now in
     let n = c.args.at.line in
     let s = c.args.at.offset in
-    let count = c.fields-behind-count.result in
-    let wide : 4 ≤ width_at plan s = omega (arith, c.line-width.ensures.exact) in
+    let count = c.fields_behind-count.result in
+    let wide : 4 ≤ width_at plan s = omega (arith, c.line_width.ensures.exact) in
     rw (p.1, p.2) (
-      fields_next plan n s count c.in-Some.word wide c.in-Some.ensures c.fields-behind-count.ensures c.if-not-has-width.ensures.exact
-          ∙ first_operand_bad plan n s count c.in-err-a.field-0.0 c.in-err-a.ensures.0,
-      c.in-err-a.ensures.1,
+      fields_next plan n s count c.in-Some.word wide c.in-Some.ensures c.fields_behind-count.ensures c.if-not-has_width.ensures.exact
+          ∙ first_operand_bad plan n s count c.in_err-a.field-0.0 c.in_err-a.ensures.0,
+      c.in_err-a.ensures.1,
     )
 
-pub returns-in-err-b : goal.returns-in-err-b
-returns-in-err-b c =
-    let p = err_from_is_err_and c.from-residual-in-err-b.result c.from-residual-in-err-b.ensures.1 in
+pub returns-in_err-b : goal.returns-in_err-b
+returns-in_err-b c =
+    let p = err_from_is_err_and c.from-residual-in_err-b.result c.from-residual-in_err-b.ensures.1 in
     let plan = c.args.plan.now in
     let n = c.args.at.line in
     let s = c.args.at.offset in
-    let count = c.fields-behind-count.result in
-    let wide : 4 ≤ width_at plan s = omega (arith, c.line-width.ensures.exact) in
+    let count = c.fields_behind-count.result in
+    let wide : 4 ≤ width_at plan s = omega (arith, c.line_width.ensures.exact) in
     rw (p.1, p.2) (
-      fields_next plan n s count c.in-Some.word wide c.in-Some.ensures c.fields-behind-count.ensures c.if-not-has-width.ensures.exact
-          ∙ first_operand_read plan n s count c.in-ok-a.ensures.0
-          ∙ c.in-err-b.ensures.0,
-      c.in-err-b.ensures.1,
+      fields_next plan n s count c.in-Some.word wide c.in-Some.ensures c.fields_behind-count.ensures c.if-not-has_width.ensures.exact
+          ∙ first_operand_read plan n s count c.in_ok-a.ensures.0
+          ∙ c.in_err-b.ensures.0,
+      c.in_err-b.ensures.1,
     )
 
 pub returns : goal.returns
@@ -46,12 +46,12 @@ returns c =
     let plan = c.args.plan.now in
     let n = c.args.at.line in
     let s = c.args.at.offset in
-    let count = c.fields-behind-count.result in
-    let wide : 4 ≤ width_at plan s = omega (arith, c.line-width.ensures.exact) in (
-      fields_next plan n s count c.in-Some.word wide c.in-Some.ensures c.fields-behind-count.ensures c.if-not-has-width.ensures.exact
-          ∙ first_operand_read plan n s count c.in-ok-a.ensures.0
-          ∙ c.in-ok-b.ensures.0,
-      line_read_is plan c.args.at c.in-Some.word count c.in-ok-a.a c.in-ok-b.b c.saturating-add.result c.command-with.result
-          c.in-Some.ensures c.fields-behind-count.ensures c.if-not-has-width.ensures.exact
-          c.in-ok-a.ensures.1 c.in-ok-b.ensures.1 c.command-with.ensures c.saturating-add.ensures,
+    let count = c.fields_behind-count.result in
+    let wide : 4 ≤ width_at plan s = omega (arith, c.line_width.ensures.exact) in (
+      fields_next plan n s count c.in-Some.word wide c.in-Some.ensures c.fields_behind-count.ensures c.if-not-has_width.ensures.exact
+          ∙ first_operand_read plan n s count c.in_ok-a.ensures.0
+          ∙ c.in_ok-b.ensures.0,
+      line_read_is plan c.args.at c.in-Some.word count c.in_ok-a.a c.in_ok-b.b c.saturating_add.result c.command_with.result
+          c.in-Some.ensures c.fields_behind-count.ensures c.if-not-has_width.ensures.exact
+          c.in_ok-a.ensures.1 c.in_ok-b.ensures.1 c.command_with.ensures c.saturating_add.ensures,
     )

@@ -6,4 +6,4 @@ use Rattle.sheets.proofs.script.word_at.Goals as goal
 pub returns : goal.returns
 returns c =
     let e : c.args.start + 4 - c.args.start ≡ 4 = omega arith in
-    c.script-word.ensures ∙ ap (λ n. script_word (take n (drop c.args.start c.args.plan.now))) e
+    c.script_word.ensures ∙ ap (λ n. script_word (take n (drop c.args.start c.args.plan.now))) e

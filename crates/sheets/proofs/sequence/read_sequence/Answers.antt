@@ -18,9 +18,9 @@ returns-in-default c =
     let start = c.args.start in
     let m = c.args.modules in
     let j = c.loop-j.j in
-    let inside : start + 4 * m < length plan = c.if-not-has-width.ensures.within tt in
+    let inside : start + 4 * m < length plan = c.if-not-has_width.ensures.within tt in
     rw c.field.ensures (
-      line_passed plan start (4 * m) (line_finding sheets.Plan line) (each m (place_checks plan line start)) c.if-not-has-width.ensures.exact
+      line_passed plan start (4 * m) (line_finding sheets.Plan line) (each m (place_checks plan line start)) c.if-not-has_width.ensures.exact
           ∙ loop-fault (place_checks plan line start) j m (field_finding BadField sheets.Plan line start (4 * j) 4) c.loop-j.invariant.0 c.loop-j-test.true
           (single_fault (field_number (part plan (start + 4 * j) 4)) (field_finding BadField sheets.Plan line start (4 * j) 4) c.in-default.ensures),
       (refl, omega arith, refl),

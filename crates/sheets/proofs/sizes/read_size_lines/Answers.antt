@@ -20,19 +20,19 @@ loop-i-init c = (
   filled_none (sides_of 0 0) (sides_read c.args.sizes.now) c.args.sides.now c.requires.clear,
 )
 
-pub read-size-line-requires : goal.read-size-line-requires
-read-size-line-requires c = c.loop-i.invariant.2
+pub read_size_line-requires : goal.read_size_line-requires
+read_size_line-requires c = c.loop-i.invariant.2
 
-pub returns-in-err-sides : goal.returns-in-err-sides
-returns-in-err-sides c =
+pub returns-in_err-sides : goal.returns-in_err-sides
+returns-in_err-sides c =
     let p = err_from_is_err_and c.from-residual.result c.from-residual.ensures.1 in
     let sizes = c.args.sizes.now in
-    let e : first (size_checks sizes c.loop-i.i) ≡ Some c.in-err-sides.field-0.0 =
-    ap (λ s. first (size_line_checks sizes (c.loop-i.i + 1) s)) (sym c.loop-i.invariant.1) ∙ c.in-err-sides.ensures.0 in
+    let e : first (size_checks sizes c.loop-i.i) ≡ Some c.in_err-sides.field-0.0 =
+    ap (λ s. first (size_line_checks sizes (c.loop-i.i + 1) s)) (sym c.loop-i.invariant.1) ∙ c.in_err-sides.ensures.0 in
     rw (p.1, p.2) (
       first_front (each c.args.modules (size_checks sizes)) (tell_if (goes_on sizes (line_start sizes c.args.modules)) (line_finding sheets.Sizes (c.args.modules + 1)) ∷ []) _
           (loop-fault (size_checks sizes) c.loop-i.i c.args.modules _ c.loop-i.invariant.0 c.loop-i-test.true e),
-      c.in-err-sides.ensures.1,
+      c.in_err-sides.ensures.1,
     )
 
 pub loop-i-preserved : goal.loop-i-preserved
@@ -40,15 +40,15 @@ loop-i-preserved c =
     let sizes = c.args.sizes.now in
     let i = c.loop-i.i in
     let at = c.loop-i.invariant.1 in
-    let passed = c.in-ok-sides.ensures.1.1 in
-    let e : first (size_checks sizes i) ≡ None = ap (λ s. first (size_line_checks sizes (i + 1) s)) (sym at) ∙ c.in-ok-sides.ensures.0 in
+    let passed = c.in_ok-sides.ensures.1.1 in
+    let e : first (size_checks sizes i) ≡ None = ap (λ s. first (size_line_checks sizes (i + 1) s)) (sym at) ∙ c.in_ok-sides.ensures.0 in
     let q : line_start sizes (i + 1) ≡ c.loop-i.start + 16 + 1 = line_start_more sizes i ∙ ap (next_line sizes) (sym at) ∙ passed.0 in
     let in-room : i < length c.loop-i.sides = omega (arith, c.requires.small, c.requires.room) in (
       loop-more (size_checks sizes) i c.args.modules c.loop-i.invariant.0 c.loop-i-test.true e,
       omega arith,
       omega (arith, passed.1),
-      filled_more (sides_of 0 0) (sides_read sizes) i c.loop-i.sides c.in-ok-sides.field-0 in-room
-          (c.in-ok-sides.ensures.1.0 ∙ ap (λ s. sides_of (number_at sizes (s + 0) 8) (number_at sizes (s + 8) 8)) at) c.loop-i.invariant.3,
+      filled_more (sides_of 0 0) (sides_read sizes) i c.loop-i.sides c.in_ok-sides.field-0 in-room
+          (c.in_ok-sides.ensures.1.0 ∙ ap (λ s. sides_of (number_at sizes (s + 0) 8) (number_at sizes (s + 8) 8)) at) c.loop-i.invariant.3,
     )
 
 pub returns : goal.returns

@@ -11,8 +11,8 @@ loop-i-init c =
 pub loop-i-preserved : goal.loop-i-preserved
 loop-i-preserved c =
     built_more c.args.m c.args.codes.now c.args.code c.loop-i.i c.loop-i.graph
-    c.set-successors.new.self (member c.row-of.result) (omega arith) c.loop-i.invariant c.row-of.ensures
-    c.set-successors.ensures
+    c.set_successors.new.self (member c.row_of.result) (omega arith) c.loop-i.invariant c.row_of.ensures
+    c.set_successors.ensures
 
 pub returns : goal.returns
 returns c =

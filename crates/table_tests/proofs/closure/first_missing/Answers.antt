@@ -13,7 +13,7 @@ returns-in-Some c =
     let p = missing c.args.right.now c.args.above.now in
     let inside = missing_inside c.args.m c.args.right.now c.args.above.now c.requires.right c.requires.above in
     clean_found p c.args.m c.loop-i.i c.in-Some.k c.loop-i.invariant c.loop-i-test.true
-    (least_first c.missing-from.result (p c.loop-i.i) c.args.m c.missing-from.ensures
+    (least_first c.missing_from.result (p c.loop-i.i) c.args.m c.missing_from.ensures
     (inside c.loop-i.i) (Some c.in-Some.k) c.in-Some.ensures)
 
 pub loop-i-preserved : goal.loop-i-preserved
@@ -21,7 +21,7 @@ loop-i-preserved c =
     let p = missing c.args.right.now c.args.above.now in
     let inside = missing_inside c.args.m c.args.right.now c.args.above.now c.requires.right c.requires.above in
     clean_more p c.args.m c.loop-i.i c.loop-i.invariant
-    (least_first c.missing-from.result (p c.loop-i.i) c.args.m c.missing-from.ensures
+    (least_first c.missing_from.result (p c.loop-i.i) c.args.m c.missing_from.ensures
     (inside c.loop-i.i) None c.in-default.ensures)
 
 pub returns : goal.returns

@@ -8,8 +8,8 @@ returns c =
     let h = c.args.above.now in
     let i = c.args.i in
     missing_members g h i c.minus-beside.result c.minus-over.result c.union.result
-    (lacking_members g i c.two-steps.result c.successors.result c.minus-beside.result c.two-steps.ensures
+    (lacking_members g i c.two_steps.result c.successors.result c.minus-beside.result c.two_steps.ensures
     c.successors.ensures c.minus-beside.ensures)
-    (lacking_members h i c.two-steps-2.result c.successors-2.result c.minus-over.result
-    c.two-steps-2.ensures c.successors-2.ensures c.minus-over.ensures)
+    (lacking_members h i c.two_steps-2.result c.successors-2.result c.minus-over.result
+    c.two_steps-2.ensures c.successors-2.ensures c.minus-over.ensures)
     c.union.ensures

@@ -4,10 +4,10 @@ use Rattle.std.proofs.lemmas.Bool.{ltb-true}
 use Rattle.table_tests.proofs.CodeTests.{great_found, great_none}
 use Rattle.table_tests.proofs.codes.wrong_code.Goals as goal
 
-pub returns-then-is-wrong : goal.returns-then-is-wrong
-returns-then-is-wrong c =
+pub returns-then-is_wrong : goal.returns-then-is_wrong
+returns-then-is_wrong c =
     great_found c.args.greatest c.args.m c.args.codes.now c.requires c.loop-k.k c.loop-k-test.true
-    (ltb-true _ _ (sym c.if-is-wrong.ensures)) c.loop-k.invariant
+    (ltb-true _ _ (sym c.if-is_wrong.ensures)) c.loop-k.invariant
 
 pub returns : goal.returns
 returns c =

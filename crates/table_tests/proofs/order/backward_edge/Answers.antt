@@ -12,17 +12,17 @@ loop-i-preserved c =
     let s = c.args.sequence.now in
     let t = table_of (length s) c.args.codes.now in
     clean_more (backwards t s) (length s) c.loop-i.i c.loop-i.invariant
-    (against_backwards t s c.places-of-places.result c.loop-i.i c.loop-i-test.true c.places-of-places.ensures
-    None (row_is (against t c.places-of-places.result c.loop-i.i) (length s) None c.in-default.ensures))
+    (against_backwards t s c.places_of-places.result c.loop-i.i c.loop-i-test.true c.places_of-places.ensures
+    None (row_is (against t c.places_of-places.result c.loop-i.i) (length s) None c.in-default.ensures))
 
 pub returns-in-Some : goal.returns-in-Some
 returns-in-Some c =
     let s = c.args.sequence.now in
     let t = table_of (length s) c.args.codes.now in
     clean_found (backwards t s) (length s) c.loop-i.i c.in-Some.j c.loop-i.invariant c.loop-i-test.true
-    (against_backwards t s c.places-of-places.result c.loop-i.i c.loop-i-test.true c.places-of-places.ensures
+    (against_backwards t s c.places_of-places.result c.loop-i.i c.loop-i-test.true c.places_of-places.ensures
     (Some c.in-Some.j)
-    (row_is (against t c.places-of-places.result c.loop-i.i) (length s) (Some c.in-Some.j) c.in-Some.ensures))
+    (row_is (against t c.places_of-places.result c.loop-i.i) (length s) (Some c.in-Some.j) c.in-Some.ensures))
 
 pub returns : goal.returns
 returns c =

@@ -4,8 +4,8 @@ use Rattle.plans.specs.Tests.{place_wrong}
 use Rattle.table_tests.proofs.PairRows.{row_is}
 use Rattle.table_tests.proofs.order.check_sequence.Goals as goal
 
-pub backward-edge-requires : goal.backward-edge-requires
-backward-edge-requires c =
+pub backward_edge-requires : goal.backward_edge-requires
+backward_edge-requires c =
     record {
       full = c.requires.full;
       few = c.requires.few;

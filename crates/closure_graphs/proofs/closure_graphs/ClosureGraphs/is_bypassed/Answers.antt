@@ -8,10 +8,10 @@ pub returns-in-Right : goal.returns-in-Right
 returns-in-Right c =
     let x = c.args.self.now in
     steps_told x 1 x.right (omega arith) x.beside c.args.a c.args.b (c.requires ∙ ap code_of c.in-Right.is)
-    c.two-steps.result c.contains.result c.two-steps.ensures c.contains.ensures
+    c.two_steps.result c.contains.result c.two_steps.ensures c.contains.ensures
 
 pub returns-in-Above : goal.returns-in-Above
 returns-in-Above c =
     let x = c.args.self.now in
     steps_told x 2 x.above (omega arith) x.over c.args.a c.args.b (c.requires ∙ ap code_of c.in-Above.is)
-    c.two-steps-in-Above.result c.contains-in-Above.result c.two-steps-in-Above.ensures c.contains-in-Above.ensures
+    c.two_steps-in-Above.result c.contains-in-Above.result c.two_steps-in-Above.ensures c.contains-in-Above.ensures

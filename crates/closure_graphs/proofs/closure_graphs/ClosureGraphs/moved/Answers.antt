@@ -2,10 +2,10 @@
 use Rattle.closure_graphs.proofs.Calls.{own_shown, own_code, edge_first, edge_second, move_drawn}
 use Rattle.closure_graphs.proofs.closure_graphs.ClosureGraphs.moved.Goals as goal
 
-pub move-graphs-requires : goal.move-graphs-requires
-move-graphs-requires c =
+pub move_graphs-requires : goal.move_graphs-requires
+move_graphs-requires c =
     let x = c.args.self.now in
-    let found = c.in-ok-direction.ensures in
+    let found = c.in_ok-direction.ensures in
     record {
       first = edge_first x c.args.a c.args.b found.0;
       second = edge_second x c.args.a c.args.b found.0;
@@ -15,8 +15,8 @@ move-graphs-requires c =
 
 pub returns : goal.returns
 returns c =
-    let passed = c.in-ok-direction.ensures.0 in (
+    let passed = c.in_ok-direction.ensures.0 in (
       passed,
-      move_drawn c.args.self.now c.args.a c.args.b passed c.move-graphs.new.right
-          c.move-graphs.new.above c.move-graphs.ensures,
+      move_drawn c.args.self.now c.args.a c.args.b passed c.move_graphs.new.right
+          c.move_graphs.new.above c.move_graphs.ensures,
     )

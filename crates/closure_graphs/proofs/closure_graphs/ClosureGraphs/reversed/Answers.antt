@@ -4,10 +4,10 @@ use Rattle.plans.specs.Sequences.{fitting}
 use Rattle.closure_graphs.proofs.Calls.{own_shown, own_code, edge_first, edge_second, reversed_table, reverse_drawn}
 use Rattle.closure_graphs.proofs.closure_graphs.ClosureGraphs.reversed.Goals as goal
 
-pub reverse-graphs-requires : goal.reverse-graphs-requires
-reverse-graphs-requires c =
+pub reverse_graphs-requires : goal.reverse_graphs-requires
+reverse_graphs-requires c =
     let x = c.args.self.now in
-    let found = c.in-ok-direction.ensures in
+    let found = c.in_ok-direction.ensures in
     record {
       first = edge_first x c.args.a c.args.b found.0;
       second = edge_second x c.args.a c.args.b found.0;
@@ -18,16 +18,16 @@ reverse-graphs-requires c =
 pub returns : goal.returns
 returns c =
     let x = c.args.self.now in
-    let passed = c.in-ok-direction.ensures.0 in
+    let passed = c.in_ok-direction.ensures.0 in
     let new =
-    reversed_table x c.args.a c.args.b passed c.reverse-graphs.new.right c.reverse-graphs.new.above
-    c.reverse-graphs.ensures
+    reversed_table x c.args.a c.args.b passed c.reverse_graphs.new.right c.reverse_graphs.new.above
+    c.reverse_graphs.ensures
     in
     record {
       drawn = (
         passed,
-        reverse_drawn x c.args.a c.args.b passed c.reverse-graphs.new.right c.reverse-graphs.new.above
-            c.reverse-graphs.ensures,
+        reverse_drawn x c.args.a c.args.b passed c.reverse_graphs.new.right c.reverse_graphs.new.above
+            c.reverse_graphs.ensures,
       );
       fitted = (new.1, new.2, ap (fitting x.size) new.0);
     }

@@ -5,4 +5,4 @@ use Rattle.module_set.proofs.set.ModuleSet.is_subset.Goals as goal
 
 pub returns : goal.returns
 returns c =
-    c.is-empty.ensures ∙ no_difference c.args.self c.args.other c.minus.result c.minus.ensures
+    c.is_empty.ensures ∙ no_difference c.args.self c.args.other c.minus.result c.minus.ensures

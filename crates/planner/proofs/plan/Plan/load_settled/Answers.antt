@@ -12,8 +12,8 @@ returns-in-Ok g c =
     let p = c.args.self.now in
     let means = g.R.Representation.means in
     load_done (state_of means p) (option_map noted_layout p.trial) (not_open p.trial c.requires)
-    (after_load c.args.codes.now c.args.sequence.now) (means p.representation) (means c.put-in.new.representation)
-    (member c.put-in.new.rotated) c.in-Ok.ensures.plan c.in-Ok.ensures.rotated
+    (after_load c.args.codes.now c.args.sequence.now) (means p.representation) (means c.put_in.new.representation)
+    (member c.put_in.new.rotated) c.in-Ok.ensures.plan c.in-Ok.ensures.rotated
 
 pub returns-in-Err : goal.returns-in-Err
 returns-in-Err g c =
@@ -21,5 +21,5 @@ returns-in-Err g c =
     let means = g.R.Representation.means in
     load_refused (state_of means p) (option_map noted_layout p.trial) (not_open p.trial c.requires)
     (after_load c.args.codes.now c.args.sequence.now) c.in-Err.refusal (means p.representation)
-    (means c.put-in.new.representation) (member c.put-in.new.rotated) c.in-Err.ensures.plan refl
+    (means c.put_in.new.representation) (member c.put_in.new.rotated) c.in-Err.ensures.plan refl
     c.in-Err.ensures.rotated refl

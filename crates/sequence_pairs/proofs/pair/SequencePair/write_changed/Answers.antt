@@ -15,7 +15,7 @@ loop-k-preserved c =
     (λ x h. let ne : x ≢ c.loop-k.k = omega arith in rw get_or-set_other (c.loop-k.invariant x h))
     (let lt : c.loop-k.k < length c.loop-k.codes =
     omega (arith, square_few c.args.self.now.count c.args.self.now.few, c.loop-k.auto.codes) in
-    rw get_or-set_same c.changed-relation.ensures)
+    rw get_or-set_same c.changed_relation.ensures)
 
 pub returns : goal.returns
 returns c =
