@@ -1,12 +1,12 @@
 -- Rows of sets, read and written one by one.
-use Rattle.std.proofs.Common.{◌≡◌, ℕ, ◌+◌, ◌<◌, ◌≤◌, Bool, true, false, cond, ◌&&◌, ◌||◌, eqb, ltb, ◌≢◌, List, length, get_or, set, replicate, sym, refl, ◌∙◌, inl, inr, add-one, arith, get_or-set_other, get_or-set_same}
+use Rattle.std.proofs.Common.{◌≡◌, ℕ, ◌+◌, ◌<◌, ◌≤◌, Bool, true, false, cond, ◌&&◌, ◌||◌, eqb, ltb, ◌≢◌, List, length, get_or, set, replicate, sym, refl, ◌∙◌, inl, inr, add-one, arith, get_or-set_other, get_or-set_same, ap}
 use lib.ListN.{get_or-replicate}
 use Rattle.std.proofs.lemmas.Bool.{cases_eq, cases_lt, lt-ltb, le-ltb, eq-eqb, ne_eqb}
 use Rattle.module_set.specs.Members.{member, no_module}
 use Rattle.module_set.specs.declared.set.ModuleSet.{ModuleSet}
 use Rattle.plans.specs.Search.{some_below}
 use Rattle.module_set.proofs.Membership.{member_outside}
-use Rattle.graphs.specs.Edges.{row_has, edge, steps_below}
+use Rattle.graphs.specs.Edges.{row_has, edge, steps_below, two_steps}
 use Rattle.graphs.specs.declared.graph.Graph.{Graph}
 
 -- a row below 64 has its set's members
@@ -94,3 +94,9 @@ pub steps_more :
 unfolding steps_below
 steps_more g i n k b e =
     rw (add-one n, e) (or_swap (edge g i n && edge g n k) (some_below n (λ j. edge g i j && edge g j k)))
+
+-- all modules gone through
+pub steps_all :
+    (g : Graph) (i n k : ℕ) (b : Bool) → n ≡ 64 → b ≡ steps_below g i n k → b ≡ two_steps g i k
+unfolding steps_below two_steps
+steps_all g i n k b h e = e ∙ ap (λ n. steps_below g i n k) h

@@ -1,5 +1,7 @@
--- No module is below 0, and 64 is above each.
-use Rattle.graphs.specs.Edges.{steps_below, two_steps}
+-- No module is below 0, and at the end all were gone through.
+use Rattle.std.proofs.Common.{arith}
+use Rattle.graphs.specs.Edges.{steps_below}
+use Rattle.graphs.proofs.Rows.{steps_all}
 use Rattle.graphs.proofs.graph.Graph.two_steps.Goals as goal
 
 pub loop-j-init : goal.loop-j-init
@@ -7,5 +9,4 @@ unfolding steps_below
 loop-j-init c = c.empty-reached.ensures
 
 pub returns : goal.returns
-unfolding steps_below two_steps
-returns c = c.loop-j.invariant
+returns c = λ k. steps_all c.args.self.now c.args.i c.loop-j.j k _ (omega arith) (c.loop-j.invariant k)
