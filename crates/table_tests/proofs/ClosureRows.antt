@@ -3,7 +3,7 @@ use Rattle.std.proofs.Common.{◌≡◌, ℕ, ◌+◌, ◌*◌, ◌<◌, ◌≤�
 use mathlib.Core.Path.{fun_ext}
 use Rattle.std.proofs.lemmas.Bool.{cases_eq, cases_lt, true≢false, and_parts, or_cases}
 use Rattle.std.proofs.lemmas.Bool.Decides.{nat_tests}
-use Rattle.graphs.specs.Edges.{edge, steps_below, two_steps}
+use Rattle.graphs.specs.Edges.{edge, two_steps}
 use Rattle.graphs.specs.declared.graph.Graph.{Graph}
 use Rattle.module_set.proofs.Membership.{member_outside}
 use Rattle.module_set.specs.Members.{member, least_member}
@@ -55,7 +55,7 @@ steps_over :
     (g : Graph) (i k : ℕ)
     → ((two_steps g i k ≡ true) × ((j : ℕ) × (edge g i j ≡ true) × (edge g j k ≡ true)))
     ⊎ ((two_steps g i k ≡ false) × ((j : ℕ) → j < 64 → (edge g i j && edge g j k) ≡ false))
-unfolding steps_below
+unfolding two_steps
 steps_over g i k =
     elim (some_tells 64 (λ j. edge g i j && edge g j k)) [
       | inl r ↦ let both = and_parts (edge g i r.1.0) (edge g r.1.0 k) r.1.2 in inl (r.0, (r.1.0, both.0, both.1))
@@ -63,7 +63,7 @@ steps_over g i k =
     ]
 
 steps_from : (g : Graph) (i j k : ℕ) → j < 64 → edge g i j ≡ true → edge g j k ≡ true → two_steps g i k ≡ true
-unfolding steps_below
+unfolding two_steps
 steps_from g i j k h p q = some_from 64 (λ j. edge g i j && edge g j k) j h (rw (p, q) refl)
 
 lacks_inside :

@@ -86,8 +86,8 @@ fn not_one_edge(m: usize, codes: &[u8]) -> Option<(usize, usize)>
 
 // The first module above i that has no edge with i, or two.
 fn not_one_edge_with(m: usize, codes: &[u8], i: usize) -> Option<usize>
-    requires codes_len { length codes.now ≡ m * m }
-    requires i_lt_m { i < m }
+    requires full { length codes.now ≡ m * m }
+    requires inside { i < m }
     ensures { result ≡ first_below m (not_one_edge (table_of m codes.now) i) }
 {
     for j in i + 1..m {

@@ -17,8 +17,8 @@ after_i c =
     c.args.right.now c.args.above.now c.loop-i.i c.successors.result c.successors-in-loop-i.result refl
     c.requires.shown c.successors.ensures c.successors-in-loop-i.ensures
 
-pub overflow-add-after : goal.overflow-add-after
-overflow-add-after c =
+pub overflow_add-after : goal.overflow_add-after
+overflow_add-after c =
     let at =
     place_of_lem c.args.m (graph_table c.args.right.now c.args.above.now) c.requires.feasible c.loop-i.i _
     c.loop-i-test.true (after_i c)
@@ -26,8 +26,8 @@ overflow-add-after c =
     let less = at.0 in
     search rules
 
-pub overflow-sub-sequence-in-loop-i : goal.overflow-sub-sequence-in-loop-i
-overflow-sub-sequence-in-loop-i c =
+pub overflow_sub-sequence-in-loop-i : goal.overflow_sub-sequence-in-loop-i
+overflow_sub-sequence-in-loop-i c =
     let at =
     place_of_lem c.args.m (graph_table c.args.right.now c.args.above.now) c.requires.feasible c.loop-i.i _
     c.loop-i-test.true (after_i c)

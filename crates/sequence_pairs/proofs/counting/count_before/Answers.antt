@@ -7,8 +7,8 @@ use Rattle.sequence_pairs.specs.Counting.{stands_before}
 use Rattle.sequence_pairs.proofs.counting.count_before.Goals as goal
 use Rattle.sequence_pairs.proofs.counting.count_before.Goals.{then-stands-before, else-stands-before}
 
-pub overflow-add-before : goal.overflow-add-before
-overflow-add-before c =
+pub overflow_add-before : goal.overflow_add-before
+overflow_add-before c =
     omega (arith, count_le c.loop-i.i (λ x. stands_before c.args.which (table_of c.args.count c.args.codes.now) x c.args.j))
 
 pub loop-i-preserved : goal.loop-i-preserved

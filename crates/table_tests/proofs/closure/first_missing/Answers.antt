@@ -22,7 +22,7 @@ loop-i-preserved c =
     let inside = missing_inside c.args.m c.args.right.now c.args.above.now c.requires.right c.requires.above in
     clean_more p c.args.m c.loop-i.i c.loop-i.invariant
     (least_first c.missing_from.result (p c.loop-i.i) c.args.m c.missing_from.ensures
-    (inside c.loop-i.i) None c.in-default.ensures)
+    (inside c.loop-i.i) None c.in_default.ensures)
 
 pub returns : goal.returns
 returns c =

@@ -18,7 +18,7 @@ pub loop-i-preserved : goal.loop-i-preserved
 loop-i-preserved c =
     let p = not_one_edge (table_of c.args.m c.args.codes.now) in
     clean_more p c.args.m c.loop-i.i c.loop-i.invariant
-    (row_is (p c.loop-i.i) c.args.m None c.in-default.ensures)
+    (row_is (p c.loop-i.i) c.args.m None c.in_default.ensures)
 
 pub returns : goal.returns
 returns c =

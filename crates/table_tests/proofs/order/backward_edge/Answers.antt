@@ -13,7 +13,7 @@ loop-i-preserved c =
     let t = table_of (length s) c.args.codes.now in
     clean_more (backwards t s) (length s) c.loop-i.i c.loop-i.invariant
     (against_backwards t s c.places_of-places.result c.loop-i.i c.loop-i-test.true c.places_of-places.ensures
-    None (row_is (against t c.places_of-places.result c.loop-i.i) (length s) None c.in-default.ensures))
+    None (row_is (against t c.places_of-places.result c.loop-i.i) (length s) None c.in_default.ensures))
 
 pub returns-in-Some : goal.returns-in-Some
 returns-in-Some c =

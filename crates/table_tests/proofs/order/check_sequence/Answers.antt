@@ -9,5 +9,5 @@ backward_edge-requires c =
     record {
       full = c.requires.full;
       few = c.requires.few;
-      once = row_is (place_wrong c.args.sequence.now) _ None c.in-default.ensures;
+      once = row_is (place_wrong c.args.sequence.now) _ None c.in_default.ensures;
     }

@@ -11,7 +11,7 @@ pub from_table-requires : goal.from_table-requires
 from_table-requires c =
     let x = c.args.self.now in (
       (x.few, part_long x c.write_changed.new.codes c.write_changed.auto.codes),
-      (accepted_part x c.args.change c.in-default.ensures c.write_changed.new.codes
+      (accepted_part x c.args.change c.in_default.ensures c.write_changed.new.codes
           c.write_changed.ensures).table,
     )
 
@@ -19,6 +19,6 @@ pub returns : goal.returns
 returns c =
     let x = c.args.self.now in
     let made =
-    accepted_part x c.args.change c.in-default.ensures c.write_changed.new.codes c.write_changed.ensures
+    accepted_part x c.args.change c.in_default.ensures c.write_changed.new.codes c.write_changed.ensures
     in
     (made.passes, c.from_table.ensures ∙ made.plan)
