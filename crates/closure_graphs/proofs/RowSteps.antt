@@ -4,7 +4,7 @@ use lib.ListN.{length-map}
 use Rattle.std.proofs.lemmas.List.{same_lists, take-map, get_or_default, get_or-map, get_or-take, length-take-le}
 use Rattle.std.proofs.lemmas.Bool.{cases_eq, cases_lt, lt-ltb, le-ltb, ne_eqb, and_parts}
 use Rattle.std.proofs.lemmas.Bool.Decides.{nat_tests}
-use Rattle.graphs.specs.Edges.{edge, steps_below, two_steps}
+use Rattle.graphs.specs.Edges.{edge, two_steps}
 use Rattle.graphs.specs.declared.graph.Graph.{Graph}
 use Rattle.plans.proofs.Searches.{some_tells, some_from, none_from}
 use Rattle.plans.specs.Changes.{exchange, bypassed}
@@ -15,7 +15,7 @@ use Rattle.table_tests.specs.Tested.{Shows}
 pub steps_bypass :
     (m code : ℕ) (c : Table) (g : Graph) → m ≤ 64 → 0 < code → ((i j : ℕ) → 0 < c i j → (i < m) × (j < m))
     → Shows c code g → (a b : ℕ) → c a b ≡ code → two_steps g a b ≡ bypassed m c a b
-unfolding steps_below
+unfolding two_steps
 steps_bypass m code c g few some within shows a b e =
     elim (some_tells m (λ k. eqb (c a k) (c a b) && eqb (c k b) (c a b))) [
       | inl (t, (k, h, p)) ↦
@@ -56,16 +56,12 @@ exchanged_write a b old k s x w h e = (
 )
 
 pub exchanged_all :
-    (a b : ℕ) (old : List ℕ) (k : ℕ) (s : List ℕ) → Exchanged a b old k s → length old ≤ k
-    → (m : ℕ) → take m s ≡ map (exchange a b) (take m old)
-exchanged_all a b old k s w h m =
-    ap (take m) whole ∙ take-map (exchange a b) m old
-  where
-    whole : s ≡ map (exchange a b) old
-    whole = same_lists s (map (exchange a b) old) (w.0 ∙ sym (length-map old (exchange a b)))
-        (λ n d l.
-        let inside : n < length old = omega (arith, w.0) in
-        get_or_default s n d 0 l ∙ w.1 n ∙ rw (lt-ltb n k (omega arith)) (sym (get_or-map (exchange a b) old n 0 d inside)))
+    (a b : ℕ) (old : List ℕ) (k : ℕ) (s : List ℕ) → Exchanged a b old k s → length old ≤ k → s ≡ map (exchange a b) old
+exchanged_all a b old k s w h =
+    same_lists s (map (exchange a b) old) (w.0 ∙ sym (length-map old (exchange a b)))
+    (λ n d l.
+    let inside : n < length old = omega (arith, w.0) in
+    get_or_default s n d 0 l ∙ w.1 n ∙ rw (lt-ltb n k (omega arith)) (sym (get_or-map (exchange a b) old n 0 d inside)))
 
 pub exchanged_none : (a b : ℕ) (old : List ℕ) → Exchanged a b old 0 old
 exchanged_none a b old = (refl, λ n. rw (le-ltb n 0 (omega arith)) refl)
