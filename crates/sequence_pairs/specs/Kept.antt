@@ -31,7 +31,6 @@ module _ (m : ℕ) (modules places : List ℕ) (room : m ≤ length modules) (at
         once = λ k l h i e.
             let same : slice_index_or modules k 0 ≡ slice_index_or modules l 0 = sym (front k h) ∙ e ∙ front l i in
             sym (module_at_lem k h).1 ∙ ap (λ p. slice_index places p) same ∙ (module_at_lem l i).1;
-        forward = λ k l h i never. absurd never;
       }
 
   -- a module's place is the one that is kept

@@ -5,7 +5,7 @@ use Rattle.plans.specs.Tables.{table_of}
 use Rattle.sequence_pairs.proofs.Counted.{count_step}
 use Rattle.sequence_pairs.specs.Counting.{stands_before}
 use Rattle.sequence_pairs.proofs.counting.count_before.Goals as goal
-use Rattle.sequence_pairs.proofs.counting.count_before.Goals.{then-stands-before, else-stands-before}
+use Rattle.sequence_pairs.proofs.counting.count_before.Goals.{then-stands_before, else-stands_before}
 
 pub overflow_add-before : goal.overflow_add-before
 overflow_add-before c =

@@ -3,8 +3,8 @@ use Rattle.std.proofs.Common.{◌∙◌, arith}
 use Rattle.sequence_pairs.proofs.Changed.{square_few, accepted_part, part_long}
 use Rattle.sequence_pairs.proofs.pair.SequencePair.changed.Goals as goal
 
-pub slice-bounds-from_table-end : goal.slice-bounds-from_table-end
-slice-bounds-from_table-end c =
+pub slice_bounds-from_table-end : goal.slice_bounds-from_table-end
+slice_bounds-from_table-end c =
     omega (arith, square_few c.args.self.now.count c.args.self.now.few, c.write_changed.auto.codes)
 
 pub from_table-requires : goal.from_table-requires
