@@ -1,7 +1,7 @@
 -- Two steps of a graph, and the places of a sequence one by one.
 use Rattle.std.proofs.Common.{◌≡◌, ℕ, ◌+◌, ◌<◌, ◌≤◌, cond, ◌&&◌, eqb, ltb, ◌≢◌, List, map, length, get_or, take, set, sym, refl, ap, ◌∙◌, inl, inr, arith, length-set, get_or-set_other, get_or-set_same}
 use lib.ListN.{length-map}
-use Rattle.std.proofs.lemmas.List.{same_lists, take-map, get_or_default, get_or-map, get_or-take, length-take-le}
+use Rattle.std.proofs.lemmas.List.{same_lists, get_or_default, get_or-map, get_or-take, length-take-le}
 use Rattle.std.proofs.lemmas.Bool.{cases_eq, cases_lt, lt-ltb, le-ltb, ne_eqb, and_parts}
 use Rattle.std.proofs.lemmas.Bool.Decides.{nat_tests}
 use Rattle.graphs.specs.Edges.{edge, two_steps}

@@ -14,7 +14,7 @@ pub struct Case<'a> {
 // The case at the start of the bytes, if one stands there whole.
 pub fn next_case(bytes: &[u8]) -> Option<Case<'_>> {
     let (word, rest) = front(bytes, 4)?;
-    if word != b"CASE" {
+    if word != b"CASE".as_slice() {
         return None;
     }
     let (sizes, rest) = front(rest, 8)?;

@@ -1,5 +1,5 @@
 -- A kind of length is lawful where its lengths are told by those of a lawful kind.
-use Rattle.std.specs.Prelude.{◌≡◌, ◌+◌, ◌≤◌, true, ◌⊎◌}
+use Rattle.std.specs.Prelude.{◌≡◌, ◌+◌, ◌≤◌, true}
 use Rattle.std.proofs.Common.{sym, ◌∙◌, inl, inr}
 use Rattle.plans.specs.CarriedPackings.{Carries}
 use Rattle.plans.specs.Kinds.{Kind, AtMost, Lawful, possible_side, sum_limit}

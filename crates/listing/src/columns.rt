@@ -17,7 +17,7 @@ pub(crate) fn append_number(out: &mut Vec<u8>, width: usize, n: u64) -> Result<(
     ensures bytes { OnOk result (out.new.items ≡ out.old.items ++ padded width n) }
     ensures reads_back { OnOk result (field_number (padded width n) ≡ Some n) }
 {
-    let digits = n.to_string(out.allocator())?;
+    let digits = n.to_string(*out.allocator())?;
     append_blanks(out, width.saturating_sub(digits.len()))?;
     append_word(out, digits.as_bytes())?;
     Ok(())

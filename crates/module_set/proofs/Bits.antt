@@ -1,10 +1,10 @@
 -- The bits of sums, powers and counts of a number, one by one.
-use Rattle.std.proofs.Common.{◌≡◌, ℕ, zero, suc, ◌+◌, ◌-◌, ◌*◌, ◌/◌, ◌%◌, ◌^◌, ◌<◌, ◌≤◌, Bool, true, false, cond, not, ◌&&◌, ◌||◌, eqb, ltb, ◌≢◌, ◌⊎◌, sym, refl, ap, ◌∙◌, subst, inl, inr, one-mul, div-one, add-one, one-add, arith}
+use Rattle.std.proofs.Common.{◌≡◌, ℕ, zero, suc, ◌+◌, ◌/◌, ◌%◌, ◌^◌, ◌<◌, Bool, true, false, cond, not, ◌&&◌, ◌||◌, eqb, ◌⊎◌, sym, refl, ap, ◌∙◌, inl, inr, one-mul, div-one, add-one, one-add, arith}
 use native.Mathlib.Nat.{zero-div}
 use lib.Bits.{bit_and, bit_or, bit_xor, shifted_half, shifted_even}
 use lib.Count.{ones, count_trailing_zeros, ones_step, ones-le}
-use Rattle.std.proofs.lemmas.Nat.{pow_pos, pow-add, shl-shr, shr-shr, or_shr, and_shr, xor_shr, or_mod, and_mod, xor_mod, mod_below, shr_below}
-use Rattle.std.proofs.lemmas.Bool.{cases_eq, eq-eqb, ne_eqb}
+use Rattle.std.proofs.lemmas.Nat.{shr-shr, or_shr, and_shr, xor_shr, or_mod, and_mod, xor_mod, mod_below, shr_below}
+use Rattle.std.proofs.lemmas.Bool.{cases_eq, ne_eqb}
 use Rattle.std.proofs.lemmas.Bool.Decides.{nat_tests}
 use Rattle.plans.proofs.Searches.{count_same}
 use Rattle.plans.specs.Search.{count_below}

@@ -1,12 +1,12 @@
 -- The members of the sets that single words, unions, differences and counts make.
-use Rattle.std.proofs.Common.{◌≡◌, ℕ, ◌+◌, ◌*◌, ◌/◌, ◌%◌, ◌^◌, ◌<◌, ◌≤◌, Bool, true, false, cond, not, ◌&&◌, ◌||◌, eqb, ltb, ◌≢◌, ◌⊎◌, is_some, Some, None, Option, sym, refl, ap, ◌∙◌, inl, inr, arith}
+use Rattle.std.proofs.Common.{◌≡◌, ℕ, ◌/◌, ◌^◌, ◌<◌, ◌≤◌, Bool, true, false, not, ◌&&◌, ◌||◌, eqb, ltb, is_some, Some, None, Option, sym, refl, ap, ◌∙◌, inl, inr, arith}
 use lib.Bits.{bit_and, bit_or, bit_xor, and_mask}
 use lib.Count.{ones, count_trailing_zeros}
 use Rattle.std.proofs.lemmas.Bool.{cases_lt, lt-ltb, le-ltb}
 use Rattle.std.proofs.lemmas.Bool.Decides.{nat_tests}
 use Rattle.plans.proofs.Searches.{count_same, first_is, first_tells, some_tells, some_from, none_from}
 use Rattle.plans.specs.First.{IsFirst}
-use Rattle.plans.specs.Search.{count_below, first_below, some_below}
+use Rattle.plans.specs.Search.{first_below, some_below}
 use Rattle.module_set.proofs.Bits.{or_bit, minus_bit, power_bit, zero_bit, ones_count, trailing_tells}
 use Rattle.module_set.specs.Members.{bit_set, member, no_module, no_member, in_set, least_member, member_count}
 use Rattle.module_set.specs.declared.set.ModuleSet.{ModuleSet}

@@ -1,5 +1,5 @@
 -- The members of a set of modules.
-use Rattle.std.specs.Prelude.{ℕ, ◌/◌, ◌%◌, ◌^◌, Bool, true, false, not, ◌&&◌, Some, None, Option, ◌==◌, nat_lt}
+use Rattle.std.specs.Prelude.{ℕ, ◌/◌, ◌%◌, ◌^◌, Bool, false, not, ◌&&◌, Some, None, Option, ◌==◌, nat_lt}
 use Rattle.plans.specs.Search.{some_below, count_below, first_below}
 use Rattle.module_set.specs.declared.set.ModuleSet.{ModuleSet}
 

@@ -1,9 +1,9 @@
 -- A state is what the account of the calls gives.
-use Rattle.std.proofs.Common.{◌≡◌, ℕ, Bool, true, false, List, [], ◌∷◌, ◌++◌, is_ok, Some, None, Ok, Err, Option, Result, sym, refl, ap, ◌∙◌, subst}
-use Rattle.plans.specs.Changes.{after_load, after_change, change_refusal, changed, unless}
+use Rattle.std.proofs.Common.{◌≡◌, ℕ, List, [], ◌∷◌, ◌++◌, is_ok, Some, None, Option, sym, refl, ap, ◌∙◌}
+use Rattle.plans.specs.Changes.{change_refusal, changed, unless}
 use Rattle.plans.specs.LoadLaw.{given}
-use Rattle.plans.specs.Model.{State, Layout, made_of, unrotated, settled, load_step, change_step, layout_after}
-use Rattle.plans.specs.Runs.{Call, load, change, keep, undo, ask, step, accepted, run, Told, told, Account, Origin, making, loading, note_if, note_call, note, account_from, new_account, account, replayed, changed_layout, origin_layout, on_trial, state_of}
+use Rattle.plans.specs.Model.{Layout, settled, load_step, change_step}
+use Rattle.plans.specs.Runs.{Call, load, change, keep, undo, ask, step, accepted, run, told, Account, Origin, note_if, account_from, replayed, changed_layout, origin_layout, state_of}
 use Rattle.plans.specs.Tests.{load_refusal}
 use Rattle.plans.specs.declared.change.Change.{Change}
 use Rattle.plans.specs.declared.refusals.LoadRefusal.{LoadRefusal}

@@ -1,5 +1,5 @@
 -- The first refusal of a change is first.
-use Rattle.std.proofs.Common.{◌≡◌, ℕ, suc, ◌<◌, ◌≤◌, Bool, true, false, cond, ◌&&◌, ◌||◌, eqb, leb, ◌⊎◌, sym, refl, ap, ◌∙◌, inl, inr, arith, lit≤}
+use Rattle.std.proofs.Common.{◌≡◌, ℕ, ◌<◌, ◌≤◌, Bool, true, cond, ◌&&◌, ◌||◌, eqb, leb, ◌⊎◌, refl, ap, ◌∙◌, inl, inr, arith, lit≤}
 use Rattle.std.proofs.lemmas.Bool.{eqb-true, eq-eqb, leb-true, le-leb, and_from, and_parts, or_cases, or_left, or_right, both_ways}
 use Rattle.plans.proofs.FirstRefusals.{Settles, settles_then, settles_all, settles_test, settles_last}
 use Rattle.plans.proofs.Searches.{SomeTells, some_tells, some_from}

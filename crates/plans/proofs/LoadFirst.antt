@@ -1,5 +1,5 @@
 -- The first refusal of a load is first.
-use Rattle.std.proofs.Common.{◌≡◌, ℕ, suc, ◌*◌, ◌<◌, ◌≤◌, Bool, true, false, cond, not, ◌&&◌, ◌||◌, eqb, ltb, leb, ◌≢◌, ◌⊎◌, List, [], ◌∷◌, length, get_or, Option, sym, refl, ap, ◌∙◌, inl, inr, arith, lit≤}
+use Rattle.std.proofs.Common.{◌≡◌, ℕ, ◌*◌, ◌<◌, ◌≤◌, Bool, true, cond, not, ◌&&◌, eqb, ltb, leb, ◌≢◌, ◌⊎◌, List, length, get_or, Option, sym, refl, ap, ◌∙◌, inl, inr, arith, lit≤}
 use Rattle.std.specs.Option.{option_map}
 use Rattle.std.proofs.lemmas.Bool.{eqb-true, eqb-false, ltb-true, lt-ltb, and_from, and_parts, or_cases, or_left, or_right, le-leb, leb-true, eq-eqb, ne_eqb, not-true, both_ways, cases_lt}
 use Rattle.std.proofs.lemmas.Bool.Decides.{nat_tests}
@@ -8,9 +8,9 @@ use Rattle.plans.proofs.Searches.{SomeTells, some_tells, some_from}
 use Rattle.plans.specs.FirstRefusals.{FirstRefusal}
 use Rattle.plans.specs.LoadLaw.{LoadApplies}
 use Rattle.plans.specs.Numbers.{number_of_load, told_by_load}
-use Rattle.plans.specs.Search.{place_of, or_else, refusing, first_below, first_pair, some_below}
+use Rattle.plans.specs.Search.{or_else, refusing, first_below, first_pair, some_below}
 use Rattle.plans.specs.Tables.{Table, table_of}
-use Rattle.plans.specs.Tests.{misshapen, code_wrong, self_related, not_one_edge, not_closed, place_wrong, backwards, telling_pair, table_refusal, sequence_refusal, load_refusal}
+use Rattle.plans.specs.Tests.{misshapen, code_wrong, self_related, not_one_edge, not_closed, place_wrong, backwards, telling_pair, load_refusal}
 use Rattle.plans.specs.declared.refusals.LoadRefusal.{LoadRefusal}
 use Rattle.plans.specs.declared.refusals.LoadRefusal.TheVariants.{WrongShape, WrongCode, SelfRelated, NotOneEdge, NotClosed, WrongPlace, Backwards}
 

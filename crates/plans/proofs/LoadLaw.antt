@@ -1,5 +1,5 @@
 -- A load accepts exactly what is feasible, and so exactly what the published definition admits.
-use Rattle.std.proofs.Common.{◌≡◌, ℕ, ◌*◌, ◌<◌, ◌≤◌, Bool, true, false, ◌≢◌, ◌⊎◌, List, length, get_or, Some, None, Option, sym, refl, ap, ◌∙◌, subst, inl, inr, arith}
+use Rattle.std.proofs.Common.{◌≡◌, ℕ, ◌*◌, ◌<◌, ◌≤◌, ◌≢◌, ◌⊎◌, List, length, get_or, Some, None, Option, sym, refl, ◌∙◌, subst, inl, inr, arith}
 use Rattle.std.proofs.lemmas.Bool.{cases_eq, cases_lt, cases_order}
 use Rattle.plans.proofs.LoadFirst.{load_first}
 use Rattle.plans.proofs.Places.{place_at}
@@ -10,9 +10,7 @@ use Rattle.plans.proofs.TableLists.{table_within}
 use Rattle.plans.specs.FirstRefusals.{FirstRefusal}
 use Rattle.plans.specs.LoadLaw.{LoadLaw, LoadApplies, given}
 use Rattle.plans.specs.Numbers.{number_of_load, told_by_load}
-use Rattle.plans.specs.Published.{Published}
-use Rattle.plans.specs.Search.{place_of}
-use Rattle.plans.specs.Tables.{Table, Floorplan, Feasible, FeasibleTable, Fits, table_of}
+use Rattle.plans.specs.Tables.{Table, Floorplan, Feasible, table_of}
 use Rattle.plans.specs.Tests.{load_refusal}
 use Rattle.plans.specs.declared.refusals.LoadRefusal.{LoadRefusal}
 use Rattle.plans.specs.declared.refusals.LoadRefusal.TheVariants.{WrongShape, WrongCode, SelfRelated, NotOneEdge, NotClosed, WrongPlace, Backwards}

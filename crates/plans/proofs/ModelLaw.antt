@@ -1,11 +1,11 @@
 -- The law of the model.
-use Rattle.std.proofs.Common.{◌≡◌, ℕ, List, [], ◌∷◌, Some, None, Option, sym, refl, ap, ◌∙◌, subst}
+use Rattle.std.proofs.Common.{◌≡◌, ℕ, List, [], ◌∷◌, Some, None, Option, refl}
 use Rattle.plans.proofs.Accounts.{run_notes}
 use Rattle.plans.proofs.ChangesFeasible.{changes_feasible}
 use Rattle.plans.proofs.LoadLaw.{load_feasible}
 use Rattle.plans.specs.Changes.{change_refusal, changed, unless}
 use Rattle.plans.specs.LoadLaw.{given}
-use Rattle.plans.specs.Model.{State, Layout, made_of, unrotated, load_step, change_step, model_load, model_change, model_keep, model_undo, keep_step, undo_step}
+use Rattle.plans.specs.Model.{State, Layout, made_of, unrotated, load_step, change_step, keep_step, undo_step}
 use Rattle.plans.specs.ModelLaw.{ModelLaw, FeasibleState, NotedFeasible}
 use Rattle.plans.specs.Runs.{Call, load, change, keep, undo, ask, step, run, new_account}
 use Rattle.plans.specs.Tables.{Floorplan, Feasible}

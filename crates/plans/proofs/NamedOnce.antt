@@ -1,5 +1,5 @@
 -- Lists that name each number below a bound once, and the places of the numbers in them.
-use Rattle.std.proofs.Common.{◌≡◌, ℕ, ◌<◌, Bool, true, false, ltb, List, get_or, sym, ap, ◌∙◌, inl, inr, arith}
+use Rattle.std.proofs.Common.{◌≡◌, ℕ, ◌<◌, Bool, true, ltb, List, get_or, sym, ap, ◌∙◌, inl, inr, arith}
 use Rattle.std.proofs.lemmas.Bool.{true≢false, cases_Bool, cases_order, lt-ltb, le-ltb}
 use Rattle.plans.proofs.Pigeonhole.{Different}
 use Rattle.plans.proofs.Places as places

@@ -1,9 +1,8 @@
 -- The first refusal of each packing call is first.
-use Rattle.std.proofs.Common.{◌≡◌, ℕ, suc, ◌<◌, ◌≤◌, Bool, true, false, cond, not, ◌&&◌, ◌||◌, eqb, ltb, leb, ◌≢◌, ◌⊎◌, List, [], ◌∷◌, length, get_or, sym, refl, ap, ◌∙◌, inl, inr, arith, lit≤}
-use Rattle.std.specs.Option.{option_map}
+use Rattle.std.proofs.Common.{◌≡◌, ℕ, ◌<◌, ◌≤◌, true, cond, not, ◌&&◌, ◌||◌, eqb, ltb, leb, List, length, get_or, refl, ap, ◌∙◌, inl, inr, arith, lit≤}
 use Rattle.std.proofs.lemmas.Bool.{eqb-false, ne_eqb, leb-true, le-leb, ltb-true, lt-ltb, and_from, and_parts, or_cases, or_left, or_right, not-true, cases_Bool}
 use Rattle.plans.proofs.FirstRefusals.{Settles, settles_then, settles_all, settles_test, settles_place, settles_within, settles_last}
-use Rattle.plans.specs.Kinds.{Kind, possible_side, pin_limit, side_limit}
+use Rattle.plans.specs.Kinds.{Kind, possible_side, pin_limit}
 use Rattle.plans.specs.Numbers.{number_of_pack, told_by_pack, number_of_pinned, told_by_pinned, number_of_rotation, told_by_rotation}
 use Rattle.plans.specs.Packing.{Task}
 use Rattle.plans.specs.PackingCalls.{wrong_side, pack_refusal, pin_refusal, rotation_refusal}

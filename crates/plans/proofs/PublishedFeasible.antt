@@ -1,18 +1,14 @@
 -- What the published definition admits is feasible, and a load accepts just that.
-use Rattle.std.proofs.Common.{◌≡◌, ℕ, zero, suc, ◌+◌, ◌*◌, ◌<◌, ◌≤◌, Bool, true, false, cond, eqb, ltb, ◌≢◌, ◌⊎◌, List, length, get_or, Some, None, Option, sym, refl, ap, ◌∙◌, inl, inr, arith}
+use Rattle.std.proofs.Common.{◌≡◌, ℕ, ◌<◌, ◌≢◌, ◌⊎◌, List, length, get_or, sym, refl, inl, inr, arith}
 use Rattle.std.proofs.lemmas.Bool.{cases_eq, cases_lt, cases_order}
 use Rattle.std.proofs.lemmas.Bool.Decides.{nat_tests}
-use Rattle.plans.proofs.LoadFirst.{load_first}
 use Rattle.plans.proofs.Places.{place_at, times_twice}
-use Rattle.plans.proofs.PublishedLoad.{feasible_published, fits_names}
+use Rattle.plans.proofs.PublishedLoad.{fits_names}
 use Rattle.plans.proofs.TableLists.{table_within}
-use Rattle.plans.specs.FirstRefusals.{FirstRefusal}
-use Rattle.plans.specs.LoadLaw.{LoadLaw, LoadApplies, given}
-use Rattle.plans.specs.Numbers.{number_of_load, told_by_load}
-use Rattle.plans.specs.Published.{Published, Path, edge, then, edges_between, times_in}
+use Rattle.plans.specs.LoadLaw.{LoadApplies, given}
+use Rattle.plans.specs.Published.{Published, edge, then}
 use Rattle.plans.specs.Search.{place_of}
-use Rattle.plans.specs.Tables.{Table, Floorplan, Feasible, FeasibleTable, Fits, table_in, table_of}
-use Rattle.plans.specs.Tests.{load_refusal}
+use Rattle.plans.specs.Tables.{Table, Floorplan, Feasible, Fits, table_in, table_of}
 use Rattle.plans.specs.declared.refusals.LoadRefusal.{LoadRefusal}
 use Rattle.plans.specs.declared.refusals.LoadRefusal.TheVariants.{WrongShape, WrongCode, SelfRelated, NotOneEdge, NotClosed, WrongPlace, Backwards}
 

@@ -1,21 +1,11 @@
 -- Feasible, the published definition and an accepted load say the same.
-use Rattle.std.proofs.Common.{◌≡◌, ℕ, zero, suc, ◌+◌, ◌*◌, ◌<◌, ◌≤◌, Bool, true, false, cond, eqb, ltb, ◌≢◌, ◌⊎◌, List, [], ◌∷◌, length, get_or, Some, None, Option, sym, refl, ap, ◌∙◌, inl, inr, arith}
-use Rattle.std.proofs.lemmas.Bool.{cases_eq, cases_lt, cases_order}
+use Rattle.std.proofs.Common.{◌≡◌, ℕ, ◌<◌, ◌≤◌, ◌≢◌, List, get_or, inl, inr, arith}
 use Rattle.std.proofs.lemmas.Bool.Decides.{nat_tests}
-use Rattle.plans.proofs.LoadFirst.{load_first}
 use Rattle.plans.proofs.Pigeonhole.{all_found}
 use Rattle.plans.proofs.ReductionEdges.{path_edge}
 use Rattle.plans.proofs.Places.{times_some, times_once}
-use Rattle.plans.proofs.TableLists.{table_within}
-use Rattle.plans.specs.FirstRefusals.{FirstRefusal}
-use Rattle.plans.specs.LoadLaw.{LoadLaw, LoadApplies, given}
-use Rattle.plans.specs.Numbers.{number_of_load, told_by_load}
-use Rattle.plans.specs.Published.{Published, Path, edge, then, Edge, edges_between, times_in, Precedes}
-use Rattle.plans.specs.Search.{place_of}
-use Rattle.plans.specs.Tables.{Table, Floorplan, Feasible, FeasibleTable, Fits, table_in, table_of}
-use Rattle.plans.specs.Tests.{load_refusal}
-use Rattle.plans.specs.declared.refusals.LoadRefusal.{LoadRefusal}
-use Rattle.plans.specs.declared.refusals.LoadRefusal.TheVariants.{WrongShape, WrongCode, SelfRelated, NotOneEdge, NotClosed, WrongPlace, Backwards}
+use Rattle.plans.specs.Published.{Published, edges_between, times_in, Precedes}
+use Rattle.plans.specs.Tables.{Table, Floorplan, Feasible, FeasibleTable, Fits, table_in}
 
 -- each module stands somewhere in a sequence that fits
 pub fits_names :

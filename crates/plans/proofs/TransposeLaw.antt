@@ -1,18 +1,17 @@
 -- The law of transposition.
-use Rattle.std.proofs.Common.{◌≡◌, ℕ, ◌<◌, ◌≤◌, Bool, true, false, cond, not, ◌&&◌, ◌||◌, eqb, ltb, leb, List, map, length, Option, sym, refl, ap, ◌∙◌, subst, ap₂}
+use Rattle.std.proofs.Common.{◌≡◌, ℕ, Bool, true, false, cond, not, ◌&&◌, ◌||◌, eqb, List, map, sym, refl, ap, ◌∙◌, subst, ap₂}
 use mathlib.Core.Path.{fun_ext}
 use Rattle.plans.proofs.LoadLaw.{load_feasible, feasible_load, feasible_given}
 use Rattle.plans.proofs.Transposing.{other_same, other_some, other_none, other_graph_lem, other_cond, other_table, other_codes, map_twice, load_other, loads, made_other}
-use Rattle.plans.specs.Changes.{other_graph, exchange, swap_table, without_edge, up_to, on_from, reverse_table, move_table, bypassed, two_refusal, edge_refusal, change_refusal, changed, with_table, after_change}
+use Rattle.plans.specs.Changes.{other_graph, exchange, swap_table, without_edge, up_to, on_from, reverse_table, move_table, bypassed, two_refusal, edge_refusal, change_refusal, changed, with_table}
 use Rattle.plans.specs.LoadLaw.{given}
 use Rattle.plans.specs.Search.{some_below, or_else, refusing}
-use Rattle.plans.specs.Sequences.{edge_to, fitting, ordered_by}
+use Rattle.plans.specs.Sequences.{fitting, ordered_by}
 use Rattle.plans.specs.Tables.{Table, Floorplan, Feasible, table_in, codes_of}
 use Rattle.plans.specs.Transposed.{other_code, transpose, transpose_table}
-use Rattle.plans.specs.TransposeLaw.{TransposeLaw, transpose_made}
+use Rattle.plans.specs.TransposeLaw.{TransposeLaw}
 use Rattle.plans.specs.declared.change.Change.{Change}
 use Rattle.plans.specs.declared.change.Change.TheVariants.{Rotate, Swap, Reverse, MoveEdge}
-use Rattle.plans.specs.declared.refusals.ChangeRefusal.{ChangeRefusal}
 use Rattle.plans.specs.declared.refusals.ChangeRefusal.TheVariants.{NoEdge, NoReductionEdge}
 
 -- a table and its exchange have the same edges up to and on from a module

@@ -1,21 +1,18 @@
 -- Exchanging the axes of a floorplan goes along with every test and every change.
-use Rattle.std.proofs.Common.{◌≡◌, ℕ, suc, ◌+◌, ◌-◌, ◌*◌, ◌/◌, ◌%◌, ◌<◌, ◌≤◌, Bool, true, false, cond, not, ◌&&◌, ◌||◌, eqb, ltb, leb, ◌≢◌, ◌⊎◌, List, [], ◌∷◌, map, length, get_or, Some, None, Ok, Err, Option, Result, sym, refl, ap, ◌∙◌, ap₂, inl, inr, arith}
+use Rattle.std.proofs.Common.{◌≡◌, ℕ, suc, ◌+◌, ◌*◌, ◌/◌, ◌%◌, Bool, true, false, cond, not, ◌&&◌, ◌||◌, eqb, ltb, List, [], ◌∷◌, map, length, get_or, Some, None, Ok, Option, refl, ap, ◌∙◌, ap₂, arith}
 use mathlib.Core.Path.{fun_ext}
 use Rattle.std.specs.List.{range_with_len}
 use Rattle.std.proofs.lemmas.List.{length-map}
 use Rattle.std.proofs.lemmas.Bool.Decides.{nat_tests}
-use Rattle.plans.specs.Changes.{other_graph, swap_table, without_edge, up_to, on_from, reverse_table, move_table, bypassed, edge_refusal, change_refusal, changed, with_table, exchange, after_load, after_change, unless}
+use Rattle.plans.specs.Changes.{other_graph, after_load, unless}
 use Rattle.plans.specs.Search.{some_below, place_of, or_else, refusing, first_pair, first_below}
 use Rattle.plans.specs.declared.refusals.LoadRefusal.{LoadRefusal}
 use Rattle.plans.specs.declared.refusals.LoadRefusal.TheVariants.{WrongShape, WrongCode, SelfRelated, NotOneEdge, NotClosed, WrongPlace, Backwards}
 use Rattle.std.specs.Option.{option_map}
-use Rattle.plans.specs.Sequences.{edge_to, fitting, ordered_by}
-use Rattle.plans.specs.Tables.{Table, Floorplan, Feasible, FeasibleTable, Fits, table_of, table_in, codes_of}
-use Rattle.plans.specs.Tests.{misshapen, code_wrong, self_related, not_one_edge, not_closed, place_wrong, backwards, telling_pair, table_refusal, sequence_refusal, load_refusal}
+use Rattle.plans.specs.Tables.{Table, Floorplan, table_of, codes_of}
+use Rattle.plans.specs.Tests.{misshapen, code_wrong, self_related, not_one_edge, not_closed, place_wrong, backwards, telling_pair, load_refusal}
 use Rattle.plans.specs.Transposed.{other_code, transpose, transpose_table}
-use Rattle.plans.specs.TransposeLaw.{TransposeLaw, transpose_made}
-use Rattle.plans.specs.declared.change.Change.{Change}
-use Rattle.plans.specs.declared.change.Change.TheVariants.{Rotate, Swap, Reverse, MoveEdge}
+use Rattle.plans.specs.TransposeLaw.{transpose_made}
 
 -- codes exchanged twice
 pub other_twice : (x : ℕ) → other_code (other_code x) ≡ x

@@ -1,5 +1,5 @@
 -- The changes of a floorplan, their refusals, and what a load or a change makes of a floorplan.
-use Rattle.std.specs.Prelude.{◌≡◌, ℕ, ◌-◌, Bool, true, false, cond, not, ◌&&◌, ◌||◌, List, map, length, Some, None, Ok, Err, Option, Result, ◌==◌, nat_le}
+use Rattle.std.specs.Prelude.{◌≡◌, ℕ, ◌-◌, Bool, cond, not, ◌&&◌, ◌||◌, List, map, length, Some, None, Ok, Err, Option, Result, ◌==◌, nat_le}
 use Rattle.plans.specs.Search.{some_below, or_else, refusing}
 use Rattle.plans.specs.Sequences.{fitting}
 use Rattle.plans.specs.Tables.{Table, Floorplan, table_in, codes_of}

@@ -4,7 +4,7 @@ use Rattle.plans.specs.FirstRefusals.{FirstRefusal}
 use Rattle.plans.specs.Numbers.{number_of_load, told_by_load}
 use Rattle.plans.specs.Published.{Published}
 use Rattle.plans.specs.Search.{place_of}
-use Rattle.plans.specs.Tables.{Table, Floorplan, Feasible, table_of}
+use Rattle.plans.specs.Tables.{Floorplan, Feasible, table_of}
 use Rattle.plans.specs.Tests.{load_refusal}
 use Rattle.plans.specs.declared.refusals.LoadRefusal.{LoadRefusal}
 use Rattle.plans.specs.declared.refusals.LoadRefusal.TheVariants.{WrongShape, WrongCode, SelfRelated, NotOneEdge, NotClosed, WrongPlace, Backwards}

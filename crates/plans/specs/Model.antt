@@ -1,5 +1,5 @@
 -- The model: a plan's state, and what each call answers and makes of it.
-use Rattle.std.specs.Prelude.{ℕ, Bool, true, false, List, [], ◌∷◌, Some, None, Ok, Err, Option, Result}
+use Rattle.std.specs.Prelude.{ℕ, Bool, false, List, Some, None, Ok, Err, Option, Result}
 use Rattle.plans.specs.Changes.{after_load, after_change}
 use Rattle.plans.specs.Packing.{Task, rotated_once}
 use Rattle.plans.specs.Tables.{Floorplan}

@@ -1,5 +1,5 @@
 -- The law of the model: every state that calls reach is feasible, and is what the account of the calls gives.
-use Rattle.std.specs.Prelude.{◌≡◌, ℕ, List, Some, None, Option}
+use Rattle.std.specs.Prelude.{◌≡◌, List, Some, None, Option}
 use Rattle.plans.specs.Model.{State, Layout, made_of, unrotated}
 use Rattle.plans.specs.Runs.{Call, run, told, account, state_of}
 use Rattle.plans.specs.Tables.{Floorplan, Feasible}

@@ -1,5 +1,5 @@
 -- Total orders of the numbers below a bound, and the one list that runs along such an order.
-use Rattle.std.specs.Prelude.{◌≡◌, ℕ, ◌<◌, Bool, true, false, ◌≢◌, ◌⊎◌, List, length, slice_index}
+use Rattle.std.specs.Prelude.{◌≡◌, ℕ, ◌<◌, Bool, true, false, ◌≢◌, ◌⊎◌, List, slice_index}
 use Rattle.plans.specs.Sequences.{count_before, ordered_by}
 use Rattle.plans.specs.Tables.{Sequenced}
 

@@ -1,5 +1,5 @@
 -- Packing of a floorplan: near and far edges, the chip, and every place of the result list.
-use Rattle.std.specs.Prelude.{ℕ, ◌+◌, ◌*◌, Bool, true, false, cond, not, List, ◌++◌, map, drop, Some, None, Option, ◌==◌, slice_index_or}
+use Rattle.std.specs.Prelude.{ℕ, ◌+◌, ◌*◌, Bool, true, cond, not, List, ◌++◌, map, drop, Some, None, Option, ◌==◌, slice_index_or}
 use Rattle.std.specs.List.{range_with_len}
 use Rattle.plans.specs.Axes.{Axis, latest, near_edge}
 use Rattle.plans.specs.Kinds.{Kind}

@@ -1,5 +1,5 @@
 -- Placements of a floorplan: keeping the relations, overlapping, and the least.
-use Rattle.std.specs.Prelude.{◌≡◌, ℕ, ◌<◌, ◌≤◌, Bool, true, false, ◌||◌, ◌≢◌}
+use Rattle.std.specs.Prelude.{◌≡◌, ℕ, ◌<◌, ◌≤◌, Bool, false, ◌||◌, ◌≢◌}
 use Rattle.plans.specs.Axes.{Keeps, Inside, LongestPaths, LongestPath}
 use Rattle.plans.specs.Kinds.{Kind, AtMost}
 use Rattle.plans.specs.Packing.{Task, Pins, no_pins, axis_of, far_of, chip_of}

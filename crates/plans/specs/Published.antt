@@ -1,5 +1,5 @@
 -- The published definition of a pair of transitive closure graphs with a packing sequence, in its own words.
-use Rattle.std.specs.Prelude.{◌≡◌, ℕ, zero, suc, ◌+◌, ◌*◌, ◌<◌, ◌≤◌, Bool, true, false, cond, ◌≢◌, List, [], ◌∷◌, length, ◌==◌, slice_index}
+use Rattle.std.specs.Prelude.{◌≡◌, ℕ, ◌+◌, ◌*◌, ◌<◌, ◌≤◌, cond, ◌≢◌, List, [], ◌∷◌, length, ◌==◌, slice_index}
 use Rattle.plans.specs.Tables.{Table, Floorplan, table_in}
 
 -- an edge of graph g

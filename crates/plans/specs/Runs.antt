@@ -2,7 +2,6 @@
 use Rattle.std.specs.Prelude.{ℕ, Bool, true, false, List, [], ◌∷◌, ◌++◌, length, is_ok, Some, None, Option}
 use Rattle.plans.specs.Changes.{changed}
 use Rattle.plans.specs.Model.{State, Layout, unrotated, settled, layout_after, model_load, model_change, model_keep, model_undo}
-use Rattle.plans.specs.Tables.{Floorplan}
 use Rattle.plans.specs.declared.change.Change.{Change}
 
 -- a call with its arguments; a packing, of whatever kind of length, asks and leaves the state

@@ -1,5 +1,5 @@
 -- The packing sequence that fits a table, and the published way to repair one after a reverse.
-use Rattle.std.specs.Prelude.{ℕ, suc, ◌<◌, Bool, true, false, cond, not, List, [], ◌∷◌, ◌++◌, map, take, drop, ◌==◌, nat_eq, nat_lt}
+use Rattle.std.specs.Prelude.{ℕ, suc, Bool, cond, not, List, [], ◌∷◌, ◌++◌, map, take, drop, ◌==◌, nat_eq, nat_lt}
 use Rattle.std.specs.List.{range_with_len}
 use Rattle.std.specs.Option.{unwrap_or}
 use Rattle.plans.specs.Search.{first_below, count_below, place_of}

@@ -1,5 +1,5 @@
 -- Three shortcuts that break a plan, for the worked plans to tell them from the definitions.
-use Rattle.std.specs.Prelude.{ℕ, Bool, cond, ◌&&◌, List, length, Option, ◌==◌}
+use Rattle.std.specs.Prelude.{ℕ, cond, ◌&&◌, List, length, Option, ◌==◌}
 use Rattle.plans.specs.Changes.{other_graph, without_edge}
 use Rattle.plans.specs.Search.{first_pair, or_else, refusing}
 use Rattle.plans.specs.Tables.{Table, table_of}

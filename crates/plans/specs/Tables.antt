@@ -1,5 +1,5 @@
 -- Tables of codes, floorplans, and when a floorplan is feasible.
-use Rattle.std.specs.Prelude.{◌≡◌, ℕ, ◌+◌, ◌*◌, ◌/◌, ◌%◌, ◌<◌, ◌≤◌, Bool, cond, ◌&&◌, ◌≢◌, ◌⊎◌, List, [], map, length, Some, None, Option, nat_lt, slice_index}
+use Rattle.std.specs.Prelude.{◌≡◌, ℕ, ◌+◌, ◌*◌, ◌/◌, ◌%◌, ◌<◌, ◌≤◌, cond, ◌&&◌, ◌≢◌, ◌⊎◌, List, [], map, length, Some, None, Option, nat_lt, slice_index}
 use Rattle.std.specs.List.{range_with_len}
 
 -- the code at (i, j): 1 where i is left of j, 2 where i is below j, 0 where neither; so codes 1 are the edges of

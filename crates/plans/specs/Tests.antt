@@ -1,5 +1,5 @@
 -- The first refusal of a table, of a sequence and of a load.
-use Rattle.std.specs.Prelude.{ℕ, ◌*◌, Bool, true, false, cond, not, ◌&&◌, ◌||◌, List, length, Option, ◌==◌, nat_eq, nat_le, nat_lt, slice_index}
+use Rattle.std.specs.Prelude.{ℕ, ◌*◌, Bool, cond, not, ◌&&◌, ◌||◌, List, length, Option, ◌==◌, nat_eq, nat_le, nat_lt, slice_index}
 use Rattle.std.specs.Option.{option_map}
 use Rattle.plans.specs.Search.{first_below, first_pair, some_below, or_else, refusing, place_of}
 use Rattle.plans.specs.Tables.{Table, table_of}

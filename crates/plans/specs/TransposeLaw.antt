@@ -1,7 +1,7 @@
 -- The law of transposition: exchanging the axes is its own inverse, and goes along with loads and changes.
 use Rattle.std.specs.Prelude.{◌≡◌, ℕ, List, map, Ok, Err, Result}
 use Rattle.plans.specs.Changes.{after_load, after_change}
-use Rattle.plans.specs.Tables.{Table, Floorplan, Feasible, table_in}
+use Rattle.plans.specs.Tables.{Floorplan, Feasible, table_in}
 use Rattle.plans.specs.Transposed.{other_code, transpose, transpose_table}
 use Rattle.plans.specs.declared.change.Change.{Change}
 

@@ -1,5 +1,5 @@
 -- A floorplan with its two axes exchanged.
-use Rattle.std.specs.Prelude.{ℕ, cond, List, map, ◌==◌}
+use Rattle.std.specs.Prelude.{ℕ, cond, map, ◌==◌}
 use Rattle.plans.specs.Tables.{Table, Floorplan}
 
 -- codes 1 and 2 exchanged, any other as it is

@@ -1,11 +1,11 @@
 -- Plans worked by hand, with all their numbers, and the literature's example.
-use Rattle.std.specs.Prelude.{◌≡◌, ℕ, Bool, true, false, not, List, [], ◌∷◌, map, get_or, Some, None, Ok, Err, Option, Result}
+use Rattle.std.specs.Prelude.{◌≡◌, ℕ, Bool, true, false, not, List, [], ◌∷◌, map, Some, None, Ok, Err, Result}
 use Rattle.std.specs.List.{range_with_len}
 use Rattle.plans.specs.Changes.{after_load, after_change, change_refusal, changed, bypassed}
-use Rattle.plans.specs.Kinds.{Kind, Count, plain_kind, counted_kind}
+use Rattle.plans.specs.Kinds.{Count, plain_kind, counted_kind}
 use Rattle.plans.specs.Model.{made_of, model_change}
 use Rattle.plans.specs.Packing.{Task}
-use Rattle.plans.specs.PackingCalls.{Outcome, after_pack, after_pack_pinned, after_pack_rotated}
+use Rattle.plans.specs.PackingCalls.{after_pack, after_pack_pinned, after_pack_rotated}
 use Rattle.plans.specs.Numbers.{number_of_load, number_of_change, number_of_pinned, number_of_pack}
 use Rattle.plans.specs.Runs.{run, told, account, load, change, keep, undo, making, loading}
 use Rattle.plans.specs.SequencePairs.{from_pair, other_sequence}

@@ -1,5 +1,5 @@
 -- Closure of the two graphs of a table, by their rows.
-use Rattle.std.proofs.Common.{◌≡◌, ℕ, ◌+◌, ◌*◌, ◌<◌, ◌≤◌, Bool, true, false, cond, not, ◌&&◌, ◌||◌, eqb, ltb, ◌≢◌, ◌⊎◌, List, Some, None, Option, sym, refl, ap, ◌∙◌, subst, inl, inr, arith}
+use Rattle.std.proofs.Common.{◌≡◌, ℕ, ◌<◌, ◌≤◌, Bool, true, false, not, ◌&&◌, ◌||◌, eqb, ltb, ◌≢◌, ◌⊎◌, List, Some, None, Option, sym, refl, ap, ◌∙◌, subst, inl, inr, arith}
 use mathlib.Core.Path.{fun_ext}
 use Rattle.std.proofs.lemmas.Bool.{cases_eq, cases_lt, true≢false, and_parts, or_cases}
 use Rattle.std.proofs.lemmas.Bool.Decides.{nat_tests}
@@ -11,7 +11,7 @@ use Rattle.module_set.specs.declared.set.ModuleSet.{ModuleSet}
 use Rattle.plans.proofs.Searches.{some_tells, some_from, first_tells}
 use Rattle.plans.proofs.TableLists.{table_within}
 use Rattle.plans.specs.First.{IsFirst}
-use Rattle.plans.specs.Search.{first_below, first_pair, some_below}
+use Rattle.plans.specs.Search.{first_pair}
 use Rattle.plans.specs.Tables.{Table, table_of}
 use Rattle.plans.specs.Tests.{not_closed}
 use Rattle.table_tests.specs.Closure.{lacks, missing}

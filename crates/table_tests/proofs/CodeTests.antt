@@ -1,13 +1,12 @@
 -- The tests of codes at the places of a flat table.
-use Rattle.std.proofs.Common.{◌≡◌, ℕ, suc, ◌+◌, ◌*◌, ◌/◌, ◌%◌, ◌<◌, ◌≤◌, Bool, true, false, cond, not, ◌&&◌, eqb, ltb, ◌≢◌, ◌⊎◌, List, length, get_or, Some, None, Option, sym, refl, ap, ◌∙◌, subst, inl, inr, arith}
+use Rattle.std.proofs.Common.{◌≡◌, ℕ, ◌+◌, ◌*◌, ◌/◌, ◌%◌, ◌<◌, ◌≤◌, Bool, true, false, cond, not, ltb, List, length, get_or, Some, None, sym, refl, ap, ◌∙◌, subst, inl, inr, arith}
 use mathlib.Core.Bool.{beq}
 use Rattle.std.specs.Option.{option_map}
-use Rattle.std.proofs.lemmas.Bool.{cases_eq, cases_lt, eq-eqb, ne_eqb, lt-ltb, le-ltb}
-use Rattle.std.proofs.lemmas.Bool.Decides.{nat_tests}
+use Rattle.std.proofs.lemmas.Bool.{cases_eq, eq-eqb, ne_eqb, lt-ltb, le-ltb}
 use Rattle.plans.proofs.Searches.{first_is}
 use Rattle.plans.proofs.TableLists.{code_at, place_below, table_inside}
-use Rattle.plans.specs.First.{IsFirst, IsFirstPair}
-use Rattle.plans.specs.Search.{first_below, first_pair}
+use Rattle.plans.specs.First.{IsFirst}
+use Rattle.plans.specs.Search.{first_pair}
 use Rattle.plans.specs.Tables.{Table, table_of}
 use Rattle.plans.specs.Tests.{code_wrong, self_related, not_one_edge}
 use Rattle.table_tests.proofs.PairRows.{Clean, clean_found, clean_more}

@@ -1,9 +1,8 @@
 -- The first pair in row order, found by looking for the first of each row.
-use Rattle.std.proofs.Common.{◌≡◌, ℕ, suc, ◌+◌, ◌*◌, ◌/◌, ◌%◌, ◌<◌, ◌≤◌, Bool, true, false, ◌≢◌, ◌⊎◌, Some, None, Option, sym, refl, ap, ◌∙◌, subst, inl, inr, arith}
-use Rattle.std.specs.Option.{option_map}
+use Rattle.std.proofs.Common.{◌≡◌, ℕ, ◌+◌, ◌<◌, ◌≤◌, Bool, false, Some, None, Option, sym, refl, ◌∙◌, subst, inl, inr, arith}
 use Rattle.std.proofs.lemmas.Bool.{cases_eq, cases_order, true≢false}
-use Rattle.plans.proofs.Searches.{first_is, first_tells, first_pair_tells}
-use Rattle.plans.specs.First.{IsFirst, IsFirstPair, RowBefore}
+use Rattle.plans.proofs.Searches.{first_tells, first_pair_tells}
+use Rattle.plans.specs.First.{IsFirst, IsFirstPair}
 use Rattle.plans.specs.Search.{first_below, first_pair}
 
 -- two pairs that both pass, with none before them that does, are one

@@ -1,5 +1,5 @@
 -- What codes that pass the first tests tell of their graphs.
-use Rattle.std.proofs.Common.{◌≡◌, ℕ, ◌*◌, ◌<◌, ◌≤◌, Bool, true, false, cond, not, eqb, ltb, List, length, Some, None, Option, sym, refl, ap, ◌∙◌, inl, inr, arith}
+use Rattle.std.proofs.Common.{◌≡◌, ℕ, ◌*◌, ◌<◌, ◌≤◌, false, cond, not, eqb, ltb, List, length, Some, None, Option, ap, ◌∙◌, inl, inr, arith}
 use mathlib.Core.Path.{fun_ext}
 use Rattle.std.proofs.lemmas.Bool.{or_parts, ltb-false, eqb-true, not-false, cases_lt}
 use Rattle.std.proofs.lemmas.Bool.Decides.{nat_tests}

@@ -1,5 +1,5 @@
 -- The first row with a pair that has no edge or two.
-use Rattle.std.proofs.Common.{◌≡◌, Some, None, sym, ◌∙◌}
+use Rattle.std.proofs.Common.{Some, None}
 use Rattle.plans.specs.Tables.{table_of}
 use Rattle.plans.specs.Tests.{not_one_edge}
 use Rattle.table_tests.proofs.PairRows.{clean_none, clean_found, clean_more, clean_all, row_is}

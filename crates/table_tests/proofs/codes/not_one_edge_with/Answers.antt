@@ -1,5 +1,5 @@
 -- The first module of a row that has no edge with the row's, or two.
-use Rattle.std.proofs.Common.{◌≡◌, ◌+◌, ◌<◌, ◌≤◌, Some, None, sym, ◌∙◌, arith, rules, below_more}
+use Rattle.std.proofs.Common.{Some, None, sym, ◌∙◌, arith, rules, below_more}
 use Rattle.plans.proofs.Searches.{first_is}
 use Rattle.plans.specs.Tables.{table_of}
 use Rattle.plans.specs.Tests.{not_one_edge}

@@ -1,5 +1,5 @@
 -- The first row with an edge backwards.
-use Rattle.std.proofs.Common.{◌≡◌, length, Some, None}
+use Rattle.std.proofs.Common.{length, Some, None}
 use Rattle.plans.specs.Tables.{table_of}
 use Rattle.plans.specs.Tests.{backwards}
 use Rattle.table_tests.proofs.PairRows.{clean_found, clean_more, clean_all, row_is}

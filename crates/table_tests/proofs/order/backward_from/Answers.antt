@@ -1,5 +1,5 @@
 -- The first module of a row that stands before its own.
-use Rattle.std.proofs.Common.{◌≡◌, ◌+◌, ◌*◌, true, false, get_or, Some, None, sym, refl, ◌∙◌, arith, below_more}
+use Rattle.std.proofs.Common.{◌+◌, ◌*◌, get_or, Some, None, sym, refl, ◌∙◌, arith, below_more}
 use Rattle.std.proofs.lemmas.Bool.{lt-ltb, le-ltb}
 use Rattle.plans.proofs.Searches.{first_is}
 use Rattle.plans.specs.Tables.{table_of}

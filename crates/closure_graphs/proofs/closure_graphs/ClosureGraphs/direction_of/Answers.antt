@@ -1,5 +1,5 @@
 -- The code of the graph that has the edge, or none.
-use Rattle.std.proofs.Common.{◌≡◌, ◌<◌, sym, arith}
+use Rattle.std.proofs.Common.{sym, arith}
 use Rattle.closure_graphs.proofs.Calls.{no_code, code_there, code_above}
 use Rattle.closure_graphs.proofs.closure_graphs.ClosureGraphs.direction_of.Goals as goal
 

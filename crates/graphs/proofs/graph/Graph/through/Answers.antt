@@ -1,7 +1,6 @@
 -- One module more to go through, if i has an edge to it.
 use Rattle.std.proofs.Common.{sym}
 use Rattle.graphs.proofs.Rows.{steps_more}
-use Rattle.graphs.specs.Edges.{edge}
 use Rattle.graphs.proofs.graph.Graph.through.Goals as goal
 
 pub returns-then-has_edge : goal.returns-then-has_edge

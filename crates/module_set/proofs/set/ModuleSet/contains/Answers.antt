@@ -1,5 +1,5 @@
 -- A bit that is set is a member's.
-use Rattle.std.proofs.Common.{◌≡◌, sym, ◌∙◌}
+use Rattle.std.proofs.Common.{sym, ◌∙◌}
 use Rattle.std.proofs.lemmas.Bool.{le-ltb}
 use Rattle.module_set.proofs.Membership.{low_member, member_outside}
 use Rattle.module_set.proofs.set.ModuleSet.contains.Goals as goal

@@ -1,5 +1,5 @@
 -- The bits that are set are the members.
-use Rattle.std.proofs.Common.{◌^◌, ◌<◌, arith}
+use Rattle.std.proofs.Common.{arith}
 use Rattle.module_set.proofs.Membership.{count_members}
 use Rattle.module_set.proofs.set.ModuleSet.len.Goals as goal
 

@@ -1,10 +1,9 @@
 -- A power of two has one bit.
-use Rattle.std.proofs.Common.{◌≡◌, ℕ, ◌*◌, ◌%◌, ◌^◌, ◌≤◌, false, ◌&&◌, eqb, ltb, ap, ◌∙◌, arith}
+use Rattle.std.proofs.Common.{◌≡◌, ℕ, ◌≤◌, false, ◌&&◌, eqb, ltb, ap, ◌∙◌, arith}
 use Rattle.std.proofs.lemmas.Nat.{one_shl}
 use Rattle.std.proofs.lemmas.Bool.Decides.{nat_tests}
 use Rattle.module_set.proofs.Membership.{single_member}
 use Rattle.module_set.specs.Members.{member}
-use Rattle.module_set.specs.declared.set.ModuleSet.{ModuleSet}
 use Rattle.module_set.proofs.set.ModuleSet.single.Goals as goal
 
 pub returns-then-i-lt64 : goal.returns-then-i-lt64
