@@ -11,7 +11,7 @@ use Rattle.plans.proofs.PackingAnswers.{answered_not_refused, pack_answers, pinn
 use Rattle.plans.proofs.PackingLaws.{rotated_law}
 use Rattle.plans.specs.Kinds.{Kind, Lawful}
 use Rattle.plans.specs.Packing.{Task, Pins, no_pins, rotated_once, packed_module, packed_chip, packed_list}
-use Rattle.plans.specs.PackingCalls.{Outcome, pack_refusal, pin_refusal, rotation_refusal, no_place, refused_or, packed_outcome, after_pack, after_pack_pinned, after_pack_rotated}
+use Rattle.plans.specs.PackingCalls.{Outcome, pack_refusal, pin_refusal, rotation_refusal, no_place, refused_or, packed_outcome, after_pack, after_pack_pinned}
 use Rattle.plans.specs.PackingTheorems.{NearPins, rotated_task}
 use Rattle.plans.specs.Tables.{Floorplan, Feasible}
 use Rattle.plans.specs.declared.measures.Chip.{Chip}
@@ -159,7 +159,14 @@ module _ {L : Type 0} (K : Kind L) (t : Task L) (before : List (Placed L)) (feas
         Lawful K → (answer : Result (Chip L) RotationRefusal) (after : List (Placed L))
         → PacksRotated K t before a answer after → ShowsPacking K (rotated_task t a) before answer after
     rotated_shows law answer after gives chip e =
-        rw gives.1 (rotated_answers K law t feasible before a chip (sym gives.0 ∙ e))
+        let answered = sym gives.0 ∙ e in
+        let allowed =
+        answered_not_refused K (rotation_refusal K t before a) before (packed_outcome K (rotated_task t a) no_pins before)
+        chip answered in
+        rw gives.1 (
+          rotated_answers K law t feasible before a chip answered,
+          (rotated_law K law t feasible before a allowed.0).longest,
+        )
 
     -- packing the task with the module rotated once more
     pub rotated_packed :

@@ -1,5 +1,5 @@
 -- The first module with a wrong side, from tests of one module after another.
-use Rattle.std.proofs.Common.{◌≡◌, ℕ, ◌<◌, ◌≤◌, Bool, true, false, not, ◌&&◌, List, length, get_or, Some, None, sym, ap, ◌∙◌, arith}
+use Rattle.std.proofs.Common.{◌≡◌, ℕ, ◌<◌, ◌≤◌, true, false, not, ◌&&◌, List, length, get_or, Some, None, sym, ap, arith}
 use Rattle.std.proofs.lemmas.List.{get_or_read}
 use Rattle.plans.proofs.Searches.{first_is}
 use Rattle.plans.specs.Kinds.{Kind, possible_side}

@@ -1,9 +1,9 @@
 -- Steps of the model, from what a representation answered.
-use Rattle.std.proofs.Common.{◌≡◌, ℕ, Bool, true, false, List, is_some, Some, None, Ok, Err, Option, Result, sym, refl, ap, ◌∙◌, subst, arith}
+use Rattle.std.proofs.Common.{◌≡◌, ℕ, Bool, false, is_some, Some, None, Ok, Err, Option, Result, sym, refl, ap, ◌∙◌, subst, arith}
 use mathlib.Core.Path.{fun_ext}
 use Rattle.std.specs.Option.{option_map}
-use Rattle.plans.specs.Changes.{Follows, after_load, after_change}
-use Rattle.plans.specs.Model.{State, Layout, Step, load_step, change_step, refused, rotated_after, settled}
+use Rattle.plans.specs.Changes.{Follows}
+use Rattle.plans.specs.Model.{State, Layout, load_step, change_step, refused, rotated_after, settled}
 use Rattle.plans.specs.Tables.{Floorplan}
 use Rattle.plans.specs.declared.change.Change.{Change}
 use Rattle.plans.specs.declared.refusals.PlanLoadRefusal.TheVariants as load

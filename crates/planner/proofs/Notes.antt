@@ -1,10 +1,10 @@
 -- What is noted of a feasible floorplan is the floorplan, and a load of it is accepted.
-use Rattle.std.proofs.Common.{◌≡◌, ℕ, ◌+◌, ◌-◌, ◌*◌, ◌/◌, ◌%◌, ◌<◌, ◌≤◌, Bool, true, false, cond, not, List, length, get_or, take, set, is_some, Some, None, Ok, Err, Option, Result, sym, refl, ap, ◌∙◌, subst, arith}
+use Rattle.std.proofs.Common.{◌≡◌, ℕ, ◌+◌, ◌-◌, ◌*◌, ◌<◌, ◌≤◌, true, not, List, length, get_or, take, set, is_some, Some, None, Ok, Option, Result, sym, refl, ap, ◌∙◌, subst, arith}
 use native.Mathlib.Nat.{sub-zero}
 use Rattle.std.proofs.lemmas.Nat.{mul-le}
 use Rattle.std.proofs.lemmas.List.Edits.{fill_by_more}
 use Rattle.std.proofs.lemmas.List.{same_lists, get_or-take, length-take, get_or_default}
-use Rattle.plans.proofs.LoadLaw.{load_feasible, feasible_load, feasible_given}
+use Rattle.plans.proofs.LoadLaw.{feasible_load, feasible_given}
 use Rattle.plans.specs.Changes.{Follows, after_load, unless}
 use Rattle.plans.specs.LoadLaw.{given}
 use Rattle.plans.specs.declared.refusals.LoadRefusal.{LoadRefusal}

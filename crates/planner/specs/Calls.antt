@@ -4,7 +4,7 @@ use Rattle.std.specs.Result.{result_map_both}
 use Rattle.packing.specs.Calls.{Packs, PacksPinned}
 use Rattle.packing.specs.declared.pin.Pin.{Pin}
 use Rattle.plans.specs.Kinds.{Kind}
-use Rattle.plans.specs.Model.{State, Step, made_of, model_load, model_change, model_keep, model_undo, rotated_after, task_at}
+use Rattle.plans.specs.Model.{State, Step, model_load, model_change, model_keep, model_undo, rotated_after, task_at}
 use Rattle.plans.specs.Tables.{Floorplan}
 use Rattle.plans.specs.declared.change.Change.{Change}
 use Rattle.plans.specs.declared.measures.Chip.{Chip}

@@ -12,12 +12,12 @@ returns-in_err-check_pin g c =
     let t = task_of (g.R.Representation.means x) c.args.rotated c.args.sides.now in
     let before = c.args.results.now in
     let feasible = g.met.R.Representation.feasible x in
-    let e = err_from_is_err_and c.from-residual.result c.from-residual.ensures.1 in
-    let gives : PacksPinned K t before c.args.pin c.from-residual.result before =
+    let e = err_from_is_err_and c.from_residual.result c.from_residual.ensures.1 in
+    let gives : PacksPinned K t before c.args.pin c.from_residual.result before =
     rw (e.1, e.2) (pinned_refused K t before feasible c.args.pin c.in_err-check_pin.field-0.0
     c.in_err-check_pin.ensures) in
     record {
       outcome = gives;
       least =
-          pinned_shows K t before feasible c.args.pin g.met.L.Length.lawful c.from-residual.result before gives;
+          pinned_shows K t before feasible c.args.pin g.met.L.Length.lawful c.from_residual.result before gives;
     }

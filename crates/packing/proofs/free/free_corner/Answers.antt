@@ -22,9 +22,9 @@ pub unreachable-requires : goal.unreachable-requires
 unreachable-requires g c =
     let x = c.args.representation.now in
     let p = g.R.Representation.means x in
-    module_missing p c.loop-earlier.earlier c.module_at_lem.result
+    module_missing p c.loop-earlier.earlier c.module_at.result
     (placed p c.loop-earlier.earlier c.args.place (g.met.R.Representation.feasible x) c.loop-earlier-test.true c.requires.within)
-    c.module_at_lem.ensures c.in-default.is
+    c.module_at.ensures c.in_default.is
 
 -- what is known once the module is read
 index_below : (g : given.Over) (c : goal.After-code g) → c.in-Some.j < length c.args.results.now
@@ -33,10 +33,7 @@ index_below g c =
     let p = g.R.Representation.means x in
     listed p c.loop-earlier.earlier c.in-Some.j c.args.place (length c.args.results.now)
     (g.met.R.Representation.feasible x) c.loop-earlier-test.true c.requires.within c.requires.room
-    (module_stands p c.loop-earlier.earlier c.in-Some.j c.module_at_lem.result c.module_at_lem.ensures c.in-Some.is)
-
-pub offset-bounds-results-j : goal.offset-bounds-results-j
-offset-bounds-results-j g c = let h = index_below g c in omega arith
+    (module_stands p c.loop-earlier.earlier c.in-Some.j c.module_at.result c.module_at.ensures c.in-Some.is)
 
 pub bounds-results-j : goal.bounds-results-j
 bounds-results-j g c = index_below g c
@@ -49,7 +46,7 @@ loop-earlier-preserved g c =
     let results = c.args.results.now in
     let k = c.loop-earlier.earlier in
     let feasible = g.met.R.Representation.feasible x in
-    let stands = module_stands p k c.in-Some.j c.module_at_lem.result c.module_at_lem.ensures c.in-Some.is in
+    let stands = module_stands p k c.in-Some.j c.module_at.result c.module_at.ensures c.in-Some.is in
     let below =
     listed p k c.in-Some.j c.args.place (length results) feasible c.loop-earlier-test.true c.requires.within
     c.requires.room stands in

@@ -1,11 +1,11 @@
 -- One module more is placed with each turn, and at the end all are.
-use Rattle.std.proofs.Common.{◌≡◌, ◌<◌, not, set, sym, refl, ap, ◌∙◌, subst, arith}
+use Rattle.std.proofs.Common.{◌≡◌, ◌<◌, not, sym, refl, ap, ◌∙◌, subst, arith}
 use Rattle.plans.specs.Search.{some_below}
 use Rattle.packing.proofs.Filling.{reached_more, reached_all, pushed_along, some_failed, none_failed}
-use Rattle.packing.specs.Steps.{Ready, Reached, at_place, pushed_at}
+use Rattle.packing.specs.Steps.{Ready, at_place, pushed_at}
 use Rattle.packing.specs.Tasks.{task_of, pins_of}
 use Rattle.packing.proofs.placing.place_all.Goals as goal
-use Rattle.packing.proofs.placing.place_all.Goals.{then-not-place-module, else-not-place-module}
+use Rattle.packing.proofs.placing.place_all.Goals.{then-not-place_module, else-not-place_module}
 
 pub place_module-requires : goal.place_module-requires
 place_module-requires g c =

@@ -1,10 +1,10 @@
 -- The first module whose test fails is the first with a wrong side.
-use Rattle.std.proofs.Common.{◌≡◌, true, false, sym, ◌∙◌, below_more}
+use Rattle.std.proofs.Common.{◌≡◌, true, sym, ◌∙◌, below_more}
 use Rattle.std.proofs.lemmas.Bool.{not_from_true, not_from_false, and_from, and_left, and_right}
 use Rattle.plans.specs.PackingCalls.{wrong_side}
 use Rattle.packing.proofs.WrongSides.{wrong_read, wrong_found, none_wrong}
 use Rattle.packing.proofs.refusals.first_wrong.Goals as goal
-use Rattle.packing.proofs.refusals.first_wrong.Goals.{then-not-is-side-via-then-not-is-side, then-not-is-side-via-else-not-is-side+then-not-is-side-2}
+use Rattle.packing.proofs.refusals.first_wrong.Goals.{then-not-is_side-via-then-not-is_side, then-not-is_side-via-else-not-is_side+then-not-is_side-2}
 
 pub returns-then-not-is_side : goal.returns-then-not-is_side
 returns-then-not-is_side g c =

@@ -1,5 +1,5 @@
 -- Each module is written at its place, and there is room for all.
-use Rattle.std.proofs.Common.{◌≡◌, ℕ, ◌<◌, ◌≤◌, sym, refl, ap, ◌∙◌, arith}
+use Rattle.std.proofs.Common.{sym, ◌∙◌, arith}
 use Rattle.planner.proofs.Notes.{front_same}
 use Rattle.planner.proofs.noting.sequence_of.Goals as goal
 

@@ -4,8 +4,8 @@ use Rattle.planner.proofs.Notes.{codes_few, restored}
 use Rattle.planner.proofs.ModelSteps.{done_refused}
 use Rattle.planner.proofs.noted.Noted.restore.Goals as goal
 
-pub slice-bounds-load-end : goal.slice-bounds-load-end
-slice-bounds-load-end g c = let few = codes_few c.args.self.now.size c.args.self.now.few in search rules
+pub slice_bounds-load-end : goal.slice_bounds-load-end
+slice_bounds-load-end g c = let few = codes_few c.args.self.now.size c.args.self.now.few in search rules
 
 pub unreachable-requires : goal.unreachable-requires
 unreachable-requires g c =
