@@ -12,7 +12,7 @@ use Rattle.reading.proofs.whole.read.Goals.{In-ok-parsed}
 
 pub returns-in_err-parsed : goal.returns-in_err-parsed
 returns-in_err-parsed g c =
-    let p = err_from_is_err_and c.from-residual.result c.from-residual.ensures.1 in
+    let p = err_from_is_err_and c.from_residual.result c.from_residual.ensures.1 in
     let o = first (checks_for c.args.sizes.now c.args.plan.now (held c.args.sides c.args.codes c.args.places)) in
     let fault = c.in_err-parsed.field-0.0 in
     let answer = c.in_err-parsed.ensures.answer in

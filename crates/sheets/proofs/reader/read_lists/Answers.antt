@@ -6,10 +6,13 @@ use Rattle.sheets.specs.Parsing.{Held, LeavesBy, checks_for}
 use Rattle.sheets.specs.Reading.{list_checks, sheet_checks}
 use Rattle.sheets.proofs.CheckLemmas.{first_rest}
 use Rattle.sheets.proofs.ListLemmas.{left_cleared}
+use Rattle.sheets.proofs.RoomLemmas.{short_told}
 use Rattle.sheets.proofs.reader.read_lists.Goals as goal
 
 pub returns-in-Some : goal.returns-in-Some
-returns-in-Some c = c.in-Some.ensures.short c.args.sizes.now c.args.plan.now
+returns-in-Some c =
+    let before : Held = record { sides = c.args.sides.now; codes = c.args.codes.now; places = c.args.places.now } in
+    short_told before c.in-Some.finding c.in-Some.ensures.exact c.args.sizes.now c.args.plan.now
 
 pub returns-in-Ok : goal.returns-in-Ok
 returns-in-Ok c =
@@ -19,7 +22,7 @@ returns-in-Ok c =
     let before : Held = record { sides = c.args.sides.now; codes = c.args.codes.now; places = c.args.places.now } in
     let after : Held = record { sides = c.read_all.new.sides; codes = c.read_all.new.codes; places = c.read_all.new.places } in
     let e : first (checks_for sizes plan before) ≡ None =
-    first_rest (list_checks (length before.sides) (length before.codes) (length before.places)) (sheet_checks sizes plan) (sym c.in-default.ensures.exact) ∙ done.0 in
+    first_rest (list_checks (length before.sides) (length before.codes) (length before.places)) (sheet_checks sizes plan) (sym c.in_default.ensures.exact) ∙ done.0 in
     record { found = (e, done.1); lists = subst (λ o. LeavesBy sizes plan o before after) (sym e) done.2 }
 
 pub returns-in-Err : goal.returns-in-Err
@@ -32,7 +35,7 @@ returns-in-Err c =
     let before : Held = record { sides = c.args.sides.now; codes = c.args.codes.now; places = c.args.places.now } in
     let after : Held = record { sides = c.clear_all-in-Err.new.sides; codes = c.clear_all-in-Err.new.codes; places = c.clear_all-in-Err.new.places } in
     let e : first (checks_for sizes plan before) ≡ Some f =
-    first_rest (list_checks (length before.sides) (length before.codes) (length before.places)) (sheet_checks sizes plan) (sym c.in-default.ensures.exact) ∙ found.0 in
+    first_rest (list_checks (length before.sides) (length before.codes) (length before.places)) (sheet_checks sizes plan) (sym c.in_default.ensures.exact) ∙ found.0 in
     record {
       found = (e, found.1);
       lists =
