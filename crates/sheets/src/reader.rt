@@ -80,6 +80,7 @@ fn read_all(
 
 // Both sheets, read into the caller's lists: these stay as they are where one is too short, and
 // are zero after any other fault.
+#[tactic(auto, using(crate::proofs::RoomLemmas::short_told, crate::proofs::RoomLemmas::room_read, crate::proofs::RoomLemmas::room_fault))]
 fn read_lists(
     sizes: &[u8],
     plan: &[u8],
