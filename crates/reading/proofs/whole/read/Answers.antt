@@ -56,12 +56,14 @@ returns-in-Ok g c =
       law = done_law d _ _ c.in-Ok.ensures;
     }
 
-pub returns-in-Err : goal.returns-in-Err
-returns-in-Err g c =
-    let d = after_parsing g (goal.at.returns-in-Err g c).In_ok-parsed in
-    record {
-      answer = refused_answered d _ _ c.in-Err.refusal c.in-Err.ensures c.refused.result c.refused.ensures;
-      lists = d.left;
-      meaning = refused_means d _ _ c.in-Err.refusal c.in-Err.ensures;
-      law = refused_law d _ _ c.in-Err.refusal c.in-Err.ensures c.refused.result c.refused.ensures;
-    }
+pub returns-in-Err-clause-answer : goal.returns-in-Err-clause-answer
+returns-in-Err-clause-answer g c =
+    refused_answered (after_parsing g (goal.at.returns-in-Err-clause-answer g c).In_ok-parsed) _ _ c.in-Err.refusal c.in-Err.ensures c.refused.result c.refused.ensures
+
+pub returns-in-Err-clause-meaning : goal.returns-in-Err-clause-meaning
+returns-in-Err-clause-meaning g c =
+    refused_means (after_parsing g (goal.at.returns-in-Err-clause-meaning g c).In_ok-parsed) _ _ c.in-Err.refusal c.in-Err.ensures
+
+pub returns-in-Err-clause-law : goal.returns-in-Err-clause-law
+returns-in-Err-clause-law g c =
+    refused_law (after_parsing g (goal.at.returns-in-Err-clause-law g c).In_ok-parsed) _ _ c.in-Err.refusal c.in-Err.ensures c.refused.result c.refused.ensures
