@@ -1,6 +1,5 @@
 -- A done parsing: what the load is given, that it can be given, and the outcome by what the load answers.
-use Rattle.std.proofs.Common.{◌≡◌, ℕ, ◌*◌, ◌≤◌, List, map, length, take, Some, None, Ok, Err, Result, sym, ap, ◌∙◌, subst, ap₂, inr, arith, Bor}
-use Rattle.std.specs.List.{range_with_len}
+use Rattle.std.proofs.Common.{◌≡◌, ℕ, ◌*◌, ◌≤◌, List, length, take, Some, None, Ok, Err, Result, sym, ap, ◌∙◌, subst, ap₂, inr, arith, Bor}
 use Rattle.std.specs.Option.{option_map}
 use Rattle.std.proofs.lemmas.Nat.{mul-le}
 use Rattle.std.proofs.lemmas.List.FromFn.{length-map-range_with_len}
@@ -11,11 +10,9 @@ use Rattle.plans.specs.Tables.{Floorplan}
 use Rattle.plans.specs.declared.refusals.LoadRefusal.{LoadRefusal}
 use Rattle.sheets.specs.Checks.{first, NoneApplies}
 use Rattle.sheets.proofs.CheckLemmas.{none_applies}
-use Rattle.sheets.specs.Lists.{Filled}
 use Rattle.sheets.specs.Parsing.{Held, Answers, AnswersBy, Leaves, LeavesBy, Parses, Read, Tells, checks_for, of_sheet}
 use Rattle.sheets.specs.Reading.{modules_of, code_read, place_read}
 use Rattle.sheets.specs.declared.fault.Fault.{Fault}
-use Rattle.sheets.specs.declared.fault.Finding.{Finding}
 use Rattle.sheets.specs.declared.parsed.Parsed.{Parsed}
 use Rattle.reading.specs.Outcome.{Answered, FirstRead, first_fault, means_after}
 use Rattle.reading.specs.PlanFaults.{plan_finding}

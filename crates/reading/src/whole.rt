@@ -33,10 +33,10 @@ pub fn read<'a, R: Representation>(
     codes: &mut [u8],
     places: &mut [usize],
 ) -> Result<Parsed, Fault<'a>>
-    ensures answer { Answered sizes.entry plan.entry (held sides.entry codes.entry places.entry) result }
-    ensures lists { Leaves sizes.now plan.now (held sides.entry codes.entry places.entry) (held sides.exit codes.exit places.exit) }
-    ensures meaning { R.Representation.means representation.new ≡ means_after plan.now (first_fault sizes.now plan.now (held sides.entry codes.entry places.entry)) (R.Representation.means representation.old) }
-    ensures law { FirstRead sizes.entry plan.entry (held sides.entry codes.entry places.entry) result }
+    ensures answer { Answered sizes.entry plan.entry (held sides.old codes.old places.old) result }
+    ensures lists { Leaves sizes.now plan.now (held sides.old codes.old places.old) (held sides.new codes.new places.new) }
+    ensures meaning { R.Representation.means representation.new ≡ means_after plan.now (first_fault sizes.now plan.now (held sides.old codes.old places.old)) (R.Representation.means representation.old) }
+    ensures law { FirstRead sizes.entry plan.entry (held sides.old codes.old places.old) result }
 {
     let parsed = parse(sizes, plan, sides, codes, places)?;
     let modules = parsed.modules;

@@ -44,8 +44,8 @@ pub record Held : Type 0 where
   pub places : List ℕ
 
 -- what three lists of the caller's hold
-abbrev pub held : Bor (List (Sides Plain)) → Bor (List ℕ) → Bor (List ℕ) → Held
-held s c p = record { sides = s.now; codes = c.now; places = p.now }
+abbrev pub held : List (Sides Plain) → List ℕ → List ℕ → Held
+held s c p = record { sides = s; codes = c; places = p }
 
 -- the checks of two sheets and lists of this room
 abbrev pub checks_for : List ℕ → List ℕ → Held → List Check

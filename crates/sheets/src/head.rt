@@ -5,7 +5,6 @@ ghost use Rattle.sheets.specs.Lines.{part};
 ghost use Rattle.sheets.specs.Promises.{Passed, Reads};
 ghost use Rattle.sheets.specs.Reading.{head_checks, modules_of};
 ghost use Rattle.sheets.specs.Words.{head_word};
-ghost use Rattle.sheets.specs.Stages.{HeadRead};
 
 use crate::fault::{Finding, Sheet, Wrong};
 use crate::field::number_at;

@@ -60,7 +60,7 @@ fn read_all(
     requires sides { (64 ≤ length sides.old) × (Cleared (sides_of 0 0) sides.old) }
     requires codes { (4096 ≤ length codes.old) × (Cleared 0 codes.old) }
     requires places { (64 ≤ length places.old) × (Cleared 0 places.old) }
-    ensures { ReadsAll sizes.now plan.now (held sides.exit codes.exit places.exit) result }
+    ensures { ReadsAll sizes.now plan.now (held sides.new codes.new places.new) result }
 {
     check_lengths(sizes, plan)?;
     let (head, modules) = read_head(plan)?;
@@ -80,6 +80,7 @@ fn read_all(
 
 // Both sheets, read into the caller's lists: these stay as they are where one is too short, and
 // are zero after any other fault.
+#[tactic(auto, using(crate::proofs::RoomLemmas::short_told, crate::proofs::RoomLemmas::room_read, crate::proofs::RoomLemmas::room_fault))]
 fn read_lists(
     sizes: &[u8],
     plan: &[u8],
@@ -87,7 +88,7 @@ fn read_lists(
     codes: &mut [u8],
     places: &mut [usize],
 ) -> Result<Parsed, Finding>
-    ensures { ReadsLists sizes.now plan.now (held sides.entry codes.entry places.entry) (held sides.exit codes.exit places.exit) result }
+    ensures { ReadsLists sizes.now plan.now (held sides.old codes.old places.old) (held sides.new codes.new places.new) result }
 {
     if let Some(finding) = short_list(sides.len(), codes.len(), places.len()) {
         return Err(finding);
@@ -111,9 +112,9 @@ pub fn parse<'a>(
     codes: &mut [u8],
     places: &mut [usize],
 ) -> Result<Parsed, Fault<'a>>
-    ensures answer { Answers sizes.entry plan.entry (held sides.entry codes.entry places.entry) result }
-    ensures lists { Leaves sizes.now plan.now (held sides.entry codes.entry places.entry) (held sides.exit codes.exit places.exit) }
-    ensures law { FirstOf sizes.entry plan.entry (held sides.entry codes.entry places.entry) result }
+    ensures answer { Answers sizes.entry plan.entry (held sides.old codes.old places.old) result }
+    ensures lists { Leaves sizes.now plan.now (held sides.old codes.old places.old) (held sides.new codes.new places.new) }
+    ensures law { FirstOf sizes.entry plan.entry (held sides.old codes.old places.old) result }
 {
     match read_lists(sizes, plan, sides, codes, places) {
         Ok(parsed) => Ok(parsed),

@@ -5,7 +5,6 @@ ghost use Rattle.sheets.specs.Lists.{Cleared, Filled};
 ghost use Rattle.sheets.specs.Promises.{Passed, Reads};
 ghost use Rattle.sheets.specs.Reading.{code_at, code_read, row_checks, rows_checks};
 ghost use Rattle.sheets.specs.declared.fault.Sheet.TheVariants as sheets;
-ghost use Rattle.sheets.specs.Stages.{RowRead, RowsRead};
 
 use crate::fault::{Finding, Sheet, Wrong};
 use crate::line::has_width;

@@ -4,7 +4,6 @@ ghost use Rattle.sheets.specs.Lists.{Cleared, Filled};
 ghost use Rattle.sheets.specs.Promises.{Passed, Reads};
 ghost use Rattle.sheets.specs.Reading.{number_at, sequence_checks};
 ghost use Rattle.sheets.specs.declared.fault.Sheet.TheVariants as sheets;
-ghost use Rattle.sheets.specs.Stages.{SequenceRead};
 
 use crate::fault::{Finding, Sheet, Wrong};
 use crate::field::number_at;

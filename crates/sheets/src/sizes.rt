@@ -4,7 +4,7 @@ ghost use Rattle.sheets.specs.Lists.{Cleared, Filled, sides_of, sides_read};
 ghost use Rattle.sheets.specs.Promises.{Passed, Reads};
 ghost use Rattle.sheets.specs.Reading.{is_side, number_at, side_checks, size_line_checks, sizes_checks};
 ghost use Rattle.sheets.specs.declared.fault.Sheet.TheVariants as sheets;
-ghost use Rattle.sheets.specs.Stages.{SizeLineRead, SizeLinesRead};
+ghost use Rattle.sheets.specs.Stages.{SizeLinesRead};
 
 use crate::fault::{Finding, Sheet, Wrong};
 use crate::field::number_at;

@@ -8,12 +8,12 @@ use Rattle.reading.proofs.AfterParsing.{Done, codes_end, places_end, placed, don
 use Rattle.reading.proofs.Outcomes.{parse_fault, parse_fault_keeps}
 use Rattle.reading.proofs.whole.read.Given as given
 use Rattle.reading.proofs.whole.read.Goals as goal
-use Rattle.reading.proofs.whole.read.Goals.{In-ok-parsed}
+use Rattle.reading.proofs.whole.read.Goals.{In_ok-parsed}
 
 pub returns-in_err-parsed : goal.returns-in_err-parsed
 returns-in_err-parsed g c =
-    let p = err_from_is_err_and c.from-residual.result c.from-residual.ensures.1 in
-    let o = first (checks_for c.args.sizes.now c.args.plan.now (held c.args.sides c.args.codes c.args.places)) in
+    let p = err_from_is_err_and c.from_residual.result c.from_residual.ensures.1 in
+    let o = first (checks_for c.args.sizes.now c.args.plan.now (held c.args.sides.now c.args.codes.now c.args.places.now)) in
     let fault = c.in_err-parsed.field-0.0 in
     let answer = c.in_err-parsed.ensures.answer in
     record {
@@ -25,8 +25,8 @@ returns-in_err-parsed g c =
 
 -- what the parsing left, on every way behind it
 after_parsing :
-    (g : given.Over) (c : In-ok-parsed g)
-    → Done c.args.sizes c.args.plan (held c.args.sides c.args.codes c.args.places)
+    (g : given.Over) (c : In_ok-parsed g)
+    → Done c.args.sizes c.args.plan (held c.args.sides.now c.args.codes.now c.args.places.now)
     (record { sides = c.parse.new.sides; codes = c.parse.new.codes; places = c.parse.new.places })
     c.in_ok-parsed.parsed
 after_parsing g c = record {
@@ -38,17 +38,17 @@ after_parsing g c = record {
 
 pub load_front-requires : goal.load_front-requires
 load_front-requires g c =
-    let d = after_parsing g (goal.at.load_front-requires g c).In-ok-parsed in
+    let d = after_parsing g (goal.at.load_front-requires g c).In_ok-parsed in
     record { room = (codes_end d, places_end d) }
 
 pub refused-requires : goal.refused-requires
 refused-requires g c =
-    let d = after_parsing g (goal.at.refused-requires g c).In-ok-parsed in
+    let d = after_parsing g (goal.at.refused-requires g c).In_ok-parsed in
     record { placed = placed d; inside = refused_told d _ _ c.in-Err.refusal c.in-Err.ensures }
 
 pub returns-in-Ok : goal.returns-in-Ok
 returns-in-Ok g c =
-    let d = after_parsing g (goal.at.returns-in-Ok g c).In-ok-parsed in
+    let d = after_parsing g (goal.at.returns-in-Ok g c).In_ok-parsed in
     record {
       answer = done_answered d _ _ c.in-Ok.ensures;
       lists = d.left;
@@ -56,12 +56,14 @@ returns-in-Ok g c =
       law = done_law d _ _ c.in-Ok.ensures;
     }
 
-pub returns-in-Err : goal.returns-in-Err
-returns-in-Err g c =
-    let d = after_parsing g (goal.at.returns-in-Err g c).In-ok-parsed in
-    record {
-      answer = refused_answered d _ _ c.in-Err.refusal c.in-Err.ensures c.refused.result c.refused.ensures;
-      lists = d.left;
-      meaning = refused_means d _ _ c.in-Err.refusal c.in-Err.ensures;
-      law = refused_law d _ _ c.in-Err.refusal c.in-Err.ensures c.refused.result c.refused.ensures;
-    }
+pub returns-in-Err-clause-answer : goal.returns-in-Err-clause-answer
+returns-in-Err-clause-answer g c =
+    refused_answered (after_parsing g (goal.at.returns-in-Err-clause-answer g c).In_ok-parsed) _ _ c.in-Err.refusal c.in-Err.ensures c.refused.result c.refused.ensures
+
+pub returns-in-Err-clause-meaning : goal.returns-in-Err-clause-meaning
+returns-in-Err-clause-meaning g c =
+    refused_means (after_parsing g (goal.at.returns-in-Err-clause-meaning g c).In_ok-parsed) _ _ c.in-Err.refusal c.in-Err.ensures
+
+pub returns-in-Err-clause-law : goal.returns-in-Err-clause-law
+returns-in-Err-clause-law g c =
+    refused_law (after_parsing g (goal.at.returns-in-Err-clause-law g c).In_ok-parsed) _ _ c.in-Err.refusal c.in-Err.ensures c.refused.result c.refused.ensures

@@ -1,5 +1,5 @@
 -- The digits of a field, one byte on and at its end.
-use Rattle.std.proofs.Common.{◌≡◌, ◌+◌, ◌-◌, true, false, drop, sym, refl, ◌∙◌, arith}
+use Rattle.std.proofs.Common.{◌≡◌, ◌+◌, true, false, drop, sym, refl, ◌∙◌, arith}
 use Rattle.std.proofs.lemmas.Bool.{cond-false}
 use Rattle.sheets.specs.Fields.{all_digits, value_after}
 use Rattle.sheets.proofs.FieldLemmas.{digits_more, digits_end_low, digits_end_high, digits_all, value_more, value_all, pow_ten_more, pow_ten_pos, pow_ten_fits}
@@ -18,11 +18,11 @@ returns-then-b-lt48 c =
     ] in
     sym (cond-false _ _ _ (sym c.loop-i.invariant.0 ∙ e))
 
-pub overflow-mul-value : goal.overflow-mul-value
-overflow-mul-value c = omega (arith, c.loop-i.invariant.2, pow_ten_more c.loop-i.i, pow_ten_fits (c.loop-i.i + 1) (omega arith))
+pub overflow_mul-value : goal.overflow_mul-value
+overflow_mul-value c = omega (arith, c.loop-i.invariant.2, pow_ten_more c.loop-i.i, pow_ten_fits (c.loop-i.i + 1) (omega arith))
 
-pub overflow-add-value : goal.overflow-add-value
-overflow-add-value c = omega (arith, c.loop-i.invariant.2, pow_ten_more c.loop-i.i, pow_ten_fits (c.loop-i.i + 1) (omega arith))
+pub overflow_add-value : goal.overflow_add-value
+overflow_add-value c = omega (arith, c.loop-i.invariant.2, pow_ten_more c.loop-i.i, pow_ten_fits (c.loop-i.i + 1) (omega arith))
 
 pub loop-i-preserved : goal.loop-i-preserved
 loop-i-preserved c = (

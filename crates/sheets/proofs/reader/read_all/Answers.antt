@@ -17,13 +17,13 @@ inside sizes plan name f e h = subst (λ s. f.from + f.width ≤ length (of_shee
 
 pub returns-in_err-check_lengths : goal.returns-in_err-check_lengths
 returns-in_err-check_lengths c =
-    let p = err_from_is_err_and c.from-residual.result c.from-residual.ensures.1 in
+    let p = err_from_is_err_and c.from_residual.result c.from_residual.ensures.1 in
     let found = c.in_err-check_lengths.ensures in
     rw (p.1, p.2) (length_fault c.args.sizes.now c.args.plan.now _ found.0, found.1, found.2)
 
 pub returns-in_err-head : goal.returns-in_err-head
 returns-in_err-head c =
-    let p = err_from_is_err_and c.from-residual-in_err-head.result c.from-residual-in_err-head.ensures.1 in
+    let p = err_from_is_err_and c.from_residual-in_err-head.result c.from_residual-in_err-head.ensures.1 in
     let sizes = c.args.sizes.now in
     let plan = c.args.plan.now in
     let lies = c.in_err-head.ensures.1 in
@@ -35,7 +35,7 @@ returns-in_err-head c =
 
 pub returns-in_err-read_sizes : goal.returns-in_err-read_sizes
 returns-in_err-read_sizes c =
-    let p = err_from_is_err_and c.from-residual-in_err-read_sizes.result c.from-residual-in_err-read_sizes.ensures.1 in
+    let p = err_from_is_err_and c.from_residual-in_err-read_sizes.result c.from_residual-in_err-read_sizes.ensures.1 in
     let sizes = c.args.sizes.now in
     let plan = c.args.plan.now in
     let head = c.in_ok-head.ensures in
@@ -48,7 +48,7 @@ returns-in_err-read_sizes c =
 
 pub returns-in_err-start : goal.returns-in_err-start
 returns-in_err-start c =
-    let p = err_from_is_err_and c.from-residual-in_err-start.result c.from-residual-in_err-start.ensures.1 in
+    let p = err_from_is_err_and c.from_residual-in_err-start.result c.from_residual-in_err-start.ensures.1 in
     let sizes = c.args.sizes.now in
     let plan = c.args.plan.now in
     let m = c.in_ok-head.modules in
@@ -64,7 +64,7 @@ returns-in_err-start c =
 
 pub returns-in_err-read_sequence : goal.returns-in_err-read_sequence
 returns-in_err-read_sequence c =
-    let p = err_from_is_err_and c.from-residual-in_err-read_sequence.result c.from-residual-in_err-read_sequence.ensures.1 in
+    let p = err_from_is_err_and c.from_residual-in_err-read_sequence.result c.from_residual-in_err-read_sequence.ensures.1 in
     let sizes = c.args.sizes.now in
     let plan = c.args.plan.now in
     let m = c.in_ok-head.modules in

@@ -5,16 +5,16 @@ use Rattle.sheets.specs.Lines.{width_at}
 use Rattle.sheets.proofs.ScriptLemmas.{word_unknown, fields_next, first_operand_bad, first_operand_read, line_read_is}
 use Rattle.sheets.proofs.script.read_line.Goals as goal
 
-pub returns-in-default : goal.returns-in-default
-returns-in-default c =
+pub returns-in_default : goal.returns-in_default
+returns-in_default c =
     let plan = c.args.plan.now in
     let s = c.args.at.offset in
     let wide : 4 ≤ width_at plan s = omega (arith, c.line_width.ensures.exact) in
-    rw c.field.ensures (word_unknown plan c.args.at.line s wide c.in-default.ensures, (refl, omega (arith, c.line_width.ensures.within), refl))
+    rw c.field.ensures (word_unknown plan c.args.at.line s wide c.in_default.ensures, (refl, omega (arith, c.line_width.ensures.within), refl))
 
 pub returns-in_err-a : goal.returns-in_err-a
 returns-in_err-a c =
-    let p = err_from_is_err_and c.from-residual.result c.from-residual.ensures.1 in
+    let p = err_from_is_err_and c.from_residual.result c.from_residual.ensures.1 in
     let plan = c.args.plan.now in
     let n = c.args.at.line in
     let s = c.args.at.offset in
@@ -28,7 +28,7 @@ returns-in_err-a c =
 
 pub returns-in_err-b : goal.returns-in_err-b
 returns-in_err-b c =
-    let p = err_from_is_err_and c.from-residual-in_err-b.result c.from-residual-in_err-b.ensures.1 in
+    let p = err_from_is_err_and c.from_residual-in_err-b.result c.from_residual-in_err-b.ensures.1 in
     let plan = c.args.plan.now in
     let n = c.args.at.line in
     let s = c.args.at.offset in

@@ -11,8 +11,8 @@ use Rattle.sheets.proofs.ListLemmas.{filled_more}
 use Rattle.sheets.proofs.StageLemmas.{line_passed, loop-fault, loop-more}
 use Rattle.sheets.proofs.sequence.read_sequence.Goals as goal
 
-pub returns-in-default : goal.returns-in-default
-returns-in-default c =
+pub returns-in_default : goal.returns-in_default
+returns-in_default c =
     let plan = c.args.plan.now in
     let line = c.args.line in
     let start = c.args.start in
@@ -22,7 +22,7 @@ returns-in-default c =
     rw c.field.ensures (
       line_passed plan start (4 * m) (line_finding sheets.Plan line) (each m (place_checks plan line start)) c.if-not-has_width.ensures.exact
           ∙ loop-fault (place_checks plan line start) j m (field_finding BadField sheets.Plan line start (4 * j) 4) c.loop-j.invariant.0 c.loop-j-test.true
-          (single_fault (field_number (part plan (start + 4 * j) 4)) (field_finding BadField sheets.Plan line start (4 * j) 4) c.in-default.ensures),
+          (single_fault (field_number (part plan (start + 4 * j) 4)) (field_finding BadField sheets.Plan line start (4 * j) 4) c.in_default.ensures),
       (refl, omega arith, refl),
     )
 

@@ -5,7 +5,7 @@ use Rattle.sheets.proofs.sizes.read_size_line.Goals as goal
 
 pub returns-in_err-read_side : goal.returns-in_err-read_side
 returns-in_err-read_side c =
-    let p = err_from_is_err_and c.from-residual.result c.from-residual.ensures.1 in
+    let p = err_from_is_err_and c.from_residual.result c.from_residual.ensures.1 in
     rw (p.1, p.2) (
       width_fault c.args.sizes.now c.args.line c.args.start _ c.if-not-has_width.ensures.exact c.in_err-read_side.ensures.0,
       c.in_err-read_side.ensures.1,
@@ -13,7 +13,7 @@ returns-in_err-read_side c =
 
 pub returns-in_err-read_side-2 : goal.returns-in_err-read_side-2
 returns-in_err-read_side-2 c =
-    let p = err_from_is_err_and c.from-residual-in_err-read_side-2.result c.from-residual-in_err-read_side-2.ensures.1 in
+    let p = err_from_is_err_and c.from_residual-in_err-read_side-2.result c.from_residual-in_err-read_side-2.ensures.1 in
     rw (p.1, p.2) (
       height_fault c.args.sizes.now c.args.line c.args.start _ c.if-not-has_width.ensures.exact
           c.in_ok-read_side.ensures.0 c.in_err-read_side-2.ensures.0,

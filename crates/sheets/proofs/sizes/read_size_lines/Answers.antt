@@ -25,7 +25,7 @@ read_size_line-requires c = c.loop-i.invariant.2
 
 pub returns-in_err-sides : goal.returns-in_err-sides
 returns-in_err-sides c =
-    let p = err_from_is_err_and c.from-residual.result c.from-residual.ensures.1 in
+    let p = err_from_is_err_and c.from_residual.result c.from_residual.ensures.1 in
     let sizes = c.args.sizes.now in
     let e : first (size_checks sizes c.loop-i.i) ≡ Some c.in_err-sides.field-0.0 =
     ap (λ s. first (size_line_checks sizes (c.loop-i.i + 1) s)) (sym c.loop-i.invariant.1) ∙ c.in_err-sides.ensures.0 in
