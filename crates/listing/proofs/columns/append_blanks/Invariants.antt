@@ -4,4 +4,4 @@ use Rattle.listing.specs.Padded.{blanks}
 use Rattle.std.proofs.Common.{◌≡◌, ◌++◌, vec_items}
 
 abbrev pub invariant-loop-i : goal.invariant-loop-i
-invariant-loop-i l = vec_items l.out ≡ vec_items l.initial.out ++ blanks l.-i
+invariant-loop-i l = vec_items l.out ≡ vec_items l.initial.out ++ blanks l._i

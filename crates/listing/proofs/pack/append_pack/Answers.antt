@@ -18,12 +18,12 @@ at_edge e = record { left = e; bottom = e; right = e; top = e }
 blank : (e : Counted) → e ≡ counted_lengths.origin → map (carry_placed count_of) (replicate 64 (at_edge e)) ≡ replicate 64 unplaced
 blank e is = map_replicate (carry_placed count_of) (at_edge e) 64 ∙ ap (λ x. replicate 64 (carry_placed count_of (at_edge x))) is
 
-pub returns-in_ok-append_packing : goal.returns-in_ok-append_packing
-returns-in_ok-append_packing g c =
-    let lines = pack_listed (state_of g.R.Representation.means c.args.plan.now) c.args.sides.now (replicate 64 (at_edge c.origin-edge.result)) c.pack.new.results (Ok c.in-Ok.chip) (blank c.origin-edge.result c.origin-edge.ensures) c.in-Ok.ensures.outcome.gives in
+pub returns-in_ok-append_packing-in-Ok : goal.returns-in_ok-append_packing-in-Ok
+returns-in_ok-append_packing-in-Ok g c =
+    let lines = pack_listed (state_of g.R.Representation.means c.args.plan.now) c.args.sides.now (replicate 64 (at_edge c.origin-edge.result)) c.pack.new.results (Ok c.in-Ok.chip) (blank c.origin-edge.result c.origin-edge.ensures) c.in-Ok.ensures.outcome in
     search (rules, append_assoc, lines)
 
-pub returns-in_ok-append_answer-2 : goal.returns-in_ok-append_answer-2
-returns-in_ok-append_answer-2 g c =
-    let lines = pack_listed (state_of g.R.Representation.means c.args.plan.now) c.args.sides.now (replicate 64 (at_edge c.origin-edge.result)) c.pack.new.results (Err c.in-Err.refusal) (blank c.origin-edge.result c.origin-edge.ensures) c.in-Err.ensures.outcome.gives in
+pub returns-in_ok-append_answer-in-Err : goal.returns-in_ok-append_answer-in-Err
+returns-in_ok-append_answer-in-Err g c =
+    let lines = pack_listed (state_of g.R.Representation.means c.args.plan.now) c.args.sides.now (replicate 64 (at_edge c.origin-edge.result)) c.pack.new.results (Err c.in-Err.refusal) (blank c.origin-edge.result c.origin-edge.ensures) c.in-Err.ensures.outcome in
     search (rules, append_assoc, lines)

@@ -27,7 +27,7 @@ loop-read-preserved g c =
     let line = c.in-Some.line in
     let state = state_of g.R.Representation.means c.loop-read.plan in
     let listed = line_listed c.args.sheet c.loop-read.at sides state line inv.0 (subst (λ r. ReadsLine c.args.sheet c.loop-read.at (Ok r)) c.in-Some.is c.in-Ok.ensures.answer) inv.1 in
-    let did = c.in_ok-run_command.ensures in (
+    let did = c.in_ok-run_command-in-Some.ensures in (
       listed.0,
       listed.1,
       ap (λ t. vec_items c.run_command.new.out ++ lines_from sheet sides listed.0 line.next t) did.leads
@@ -53,6 +53,6 @@ returns-in-Err g c =
     let state = state_of g.R.Representation.means c.loop-read.plan in
     let stopped = fault_listed_last c.args.sheet c.loop-read.at sides state c.in-Err.fault inv.0 c.in-Err.ensures.answer inv.1 in
     record {
-      bytes = c.in_ok-append_fault.ensures ∙ ap (λ xs. vec_items c.loop-read.out ++ xs) (sym stopped) ∙ inv.2;
+      bytes = c.in_ok-append_fault-in-Err.ensures ∙ ap (λ xs. vec_items c.loop-read.out ++ xs) (sym stopped) ∙ inv.2;
       hand = inv.3;
     }

@@ -3,7 +3,7 @@ use Rattle.std.proofs.Common.{◌≤◌, length, arith, rules}
 use Rattle.closure_graphs.specs.Meaning.{graphs_mean}
 use Rattle.listing.proofs.Outcomes.{done_listed, fault_listed, few_parsed, possible_parsed}
 use Rattle.listing.proofs.whole.listing.Goals as goal
-use Rattle.listing.proofs.whole.listing.Goals.{in-Ok+in-ok-append-loaded, in-Err+in-ok-append-fault}
+use Rattle.listing.proofs.whole.listing.Goals.{in-Ok+in_ok-append_loaded-in-Ok, in-Err+in_ok-append_fault-in-Err}
 
 pub append_loaded-requires : goal.append_loaded-requires
 append_loaded-requires c =
@@ -17,7 +17,7 @@ append_loaded-requires c =
 pub returns : goal.returns
 returns c =
     elim c.match-read.branch [
-      | in-Ok+in_ok-append_loaded w ↦
+      | in-Ok+in_ok-append_loaded-in-Ok w ↦
           let sizes = c.args.sizes in
           let plan = c.args.plan in
           let did = w.in-Ok.ensures in
@@ -25,6 +25,6 @@ returns c =
           let room : w.in-Ok.parsed.modules ≤ length c.read.new.sides = omega arith in
           let l = done_listed sizes plan w.in-Ok.parsed did.answer _ _ did.lists (graphs_mean c.new-graphs.result) (graphs_mean c.read.new.representation) did.meaning room in
           search (rules, l)
-      | in-Err+in_ok-append_fault w ↦
+      | in-Err+in_ok-append_fault-in-Err w ↦
           let l = fault_listed c.args.sizes c.args.plan w.in-Err.fault w.in-Err.ensures.answer in search (rules, l)
     ]
