@@ -1,5 +1,5 @@
 -- Lines that a script could still have, beyond its bytes, print nothing.
-use Rattle.std.proofs.Common.{◌≡◌, ℕ, zero, suc, ◌+◌, ◌≤◌, Bool, true, false, cond, ltb, List, [], ◌++◌, length, sym, refl, ap, ◌∙◌, ⊎_elim, arith}
+use Rattle.std.proofs.Common.{◌≡◌, ℕ, zero, suc, ◌+◌, ◌≤◌, false, cond, List, [], ◌++◌, length, sym, refl, ap, arith}
 use Rattle.listing.specs.CommandLines.{command_lines, state_after}
 use Rattle.listing.specs.ScriptLaw.{RunsToItsEnd}
 use Rattle.listing.specs.ScriptLines.{fault_or, lines_from}
@@ -10,7 +10,7 @@ use Rattle.sheets.specs.Checks.{first}
 use Rattle.sheets.specs.Lines.{goes_on, width_at}
 use Rattle.sheets.specs.Script.{script_checks, line_read}
 use Rattle.sheets.specs.declared.place.Place.{Place}
-use Rattle.std.proofs.lemmas.Bool.{cases_lt, lt-ltb, le-ltb}
+use Rattle.std.proofs.lemmas.Bool.{le-ltb}
 
 module _ (plan : List ℕ) (sides : List (Sides Count)) where
   -- what a line and those after it print
