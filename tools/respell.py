@@ -12,8 +12,8 @@ import os
 import re
 import sys
 
-# where the plain spelling is taken by a name of the code or of the library
-GIVEN = {}
+# where the plain spelling is taken by another name
+GIVEN = {"sides-read": "sides_there"}
 
 GENERATED = re.compile(r"^(returns|loop|invariant|decreases|overflow|bounds|slice|offset|shared|unreachable)-|-requires(-\d+)?$|-(preserved|init|smaller)$")
 DECLARES = re.compile(r"^\s*(?:(?:pub|abbrev|unfoldable|record|data|opaque|ruleset)\s+)*([^\s:(){}.,;=]+)\s*(?::|\(|\{|$)")

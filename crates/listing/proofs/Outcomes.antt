@@ -49,7 +49,7 @@ module _ (sizes plan : Bor (List ℕ)) where
     pub possible_parsed : Possible p.modules after.sides
     possible_parsed =
         subst (λ m. Possible m after.sides) (sym done.2.modules)
-        (sides_possible sizes.now plan.now after.sides done.0 filled.sides_read_lem)
+        (sides_possible sizes.now plan.now after.sides done.0 filled.sides_there)
 
     -- the script's lines at what was loaded are the listing
     pub done_listed :
@@ -62,7 +62,7 @@ module _ (sizes plan : Bor (List ℕ)) where
         let none : sheets_fault sizes.now plan.now ≡ None = ap₂ or_else done.0 done.1 in
         let own : map bordered_sides (take p.modules after.sides) ≡ sides_on sizes.now m =
         ap (λ n. map bordered_sides (take n after.sides)) done.2.modules
-        ∙ sides_listed sizes.now m after.sides filled.sides_read_lem (subst (λ n. n ≤ length after.sides) done.2.modules room) in
+        ∙ sides_listed sizes.now m after.sides filled.sides_there (subst (λ n. n ≤ length after.sides) done.2.modules room) in
         let script : p.script ≡ script_start plan.now m = λ i. record { offset = done.2.offset i; line = done.2.line i } in
         let written : new ≡ floorplan_written plan.now = means ∙ ap (λ o. means_after plan.now o old) none in
         let state : start_of (Some p.head) new ≡ start_of (head_word (part plan.now 0 4)) (floorplan_written plan.now) =

@@ -1,5 +1,5 @@
 // A set of modules 0 to 63, a bit of one word for each.
-ghost use Rattle.std.specs.Prelude.{◌≡◌, ℕ, true, false, not, ◌&&◌, ◌||◌, ltb, if◌then◌else◌, ◌==◌, nat_lt};
+ghost use Rattle.std.specs.Prelude.{◌≡◌, ℕ, true, false, not, ◌&&◌, ◌||◌, if◌then◌else◌, ◌==◌, nat_lt};
 ghost use Rattle.module_set.specs.Members.{member, no_member, in_set, least_member, member_count, is_this};
 ghost use Rattle.plans.specs.Changes.{exchange};
 
@@ -69,7 +69,7 @@ impl ModuleSet {
 
     // The set with a and b in each other's place, as it is where either is over 63.
     pub fn exchanged(self, a: usize, b: usize) -> ModuleSet
-        ensures { (k : ℕ) → member result k ≡ member self (if ltb a 64 && nat_lt b 64 then exchange a b k else k) }
+        ensures { (k : ℕ) → member result k ≡ member self (if nat_lt a 64 && nat_lt b 64 then exchange a b k else k) }
     {
         let (has_a, has_b) = (self.contains(a), self.contains(b));
         if a < 64 && b < 64 && has_a != has_b {

@@ -53,7 +53,7 @@ checks_for sizes plan h = all_checks sizes plan (length h.sides) (length h.codes
 
 -- what a done reading leaves in the lists: what was read, and zero behind it
 pub record Read (sizes plan : List ℕ) (h : Held) : Type 0 where
-  pub sides_read_lem : Filled (sides_of 0 0) (sides_read sizes) (modules_of plan) h.sides
+  pub sides_there : Filled (sides_of 0 0) (sides_read sizes) (modules_of plan) h.sides
   pub codes_read : Filled 0 (code_read plan (modules_of plan)) (modules_of plan * modules_of plan) h.codes
   pub places_read : Filled 0 (place_read plan (modules_of plan)) (modules_of plan) h.places
 

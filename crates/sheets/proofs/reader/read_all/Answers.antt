@@ -99,7 +99,7 @@ returns c =
           ∙ last.0,
       record { head = head.1.0; modules = e; offset = sym behind ∙ ap (line_start plan) two; line = ap (λ x. x + 3) e },
       record {
-        sides_read_lem = subst (λ x. Filled (sides_of 0 0) (sides_read sizes) x c.read_sizes.new.sides) e c.in_ok-read_sizes.ensures.1;
+        sides_there = subst (λ x. Filled (sides_of 0 0) (sides_read sizes) x c.read_sizes.new.sides) e c.in_ok-read_sizes.ensures.1;
         codes_read = subst (λ x. Filled 0 (code_read plan x) (x * x) c.read_rows.new.codes) e rows.1.2;
         places_read =
             subst (λ x. Filled 0 (λ k. number_at plan (line_start plan (x + 1) + 4 * k) 4) x c.read_sequence.new.places) e
