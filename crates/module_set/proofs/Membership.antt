@@ -103,3 +103,12 @@ pub none_found :
     (s : ModuleSet) (o : Option ℕ) (r : Bool) → o ≡ least_member s → is_some o ≡ not r → r ≡ no_member s
 none_found s o true e f = sym (ap not (sym (ap is_some e) ∙ f)) ∙ least_none s
 none_found s o false e f = sym (ap not (sym (ap is_some e) ∙ f)) ∙ least_none s
+
+-- a member is one of 0 to 63, so a set without a number has all its other members
+bounded : (l b e : Bool) → ((l && b) && not (l && e)) ≡ ((l && b) && not e)
+bounded true b e = refl
+bounded false b e = refl
+
+pub without_number : (s : ModuleSet) (k i : ℕ) → (member s k && not (ltb k 64 && eqb k i)) ≡ (member s k && not (eqb k i))
+unfolding member
+without_number s k i = bounded (ltb k 64) (bit_set s.bits k) (eqb k i)

@@ -105,6 +105,7 @@ impl ModuleSet {
     }
 
     // Takes the least member out and answers it, so that calls in a row give the members in turn.
+    #[tactic(auto, using(crate::proofs::Membership::without_number))]
     pub fn pop_first(&mut self) -> Option<usize>
         ensures least { result ≡ least_member self.old }
         ensures rest { (k : ℕ) → member self.new k ≡ (member self.old k && not (is_this result k)) }
