@@ -1,12 +1,14 @@
 -- The lines of one module more, from a result list in counted lengths.
-use Rattle.std.proofs.Common.{◌≡◌, ℕ, zero, suc, ◌+◌, ◌<◌, List, ◌++◌, map, length, get_or, sym, ap, ◌∙◌, append-nil, add-one, arith}
+use Rattle.std.proofs.Common.{◌≡◌, ℕ, zero, suc, ◌+◌, ◌<◌, ◌≤◌, List, ◌++◌, map, length, get_or, take, sym, refl, ap, ◌∙◌, append-nil, add-one, arith}
 use Rattle.lengths.specs.CountedLengths.{count_of}
 use Rattle.lengths.specs.declared.counted.Counted.{Counted}
-use Rattle.listing.specs.Line.{module_line}
-use Rattle.listing.specs.PackLines.{record_line, record_lines, unplaced}
+use Rattle.listing.specs.Line.{chip_line, edge_line, module_line}
+use Rattle.listing.specs.PackLines.{chip_lines, record_line, record_lines, unplaced}
 use Rattle.plans.specs.CarriedPackings.{carry_placed}
+use Rattle.plans.specs.Kinds.{Count}
+use Rattle.plans.specs.declared.measures.Chip.{Chip}
 use Rattle.plans.specs.declared.measures.Placed.{Placed}
-use Rattle.std.proofs.lemmas.List.{get_or-map, append_assoc}
+use Rattle.std.proofs.lemmas.List.{get_or-map, get_or-take, length-take-le, take-map, append_assoc}
 use Rattle.std.specs.List.{range_with_len, flat_map}
 
 -- what is joined over one number more
@@ -34,3 +36,23 @@ records_more results i p h e =
     ∙ joined_counting_more f 0 i
     ∙ ap (λ k. flat_map f (range_with_len 0 i) ++ f k) zeros
     ∙ ap (λ q. flat_map f (range_with_len 0 i) ++ record_line i q) at
+
+-- the lines of modules at the front of a list are those of the front alone
+front_lines : (rs : List (Placed Count)) (n m : ℕ) → m ≤ n → record_lines m (take n rs) ≡ record_lines m rs
+front_lines rs n zero h = refl
+front_lines rs n (suc m) h =
+    let line : List (Placed Count) → ℕ → List ℕ = λ xs k. record_line k (get_or xs k unplaced) in
+    joined_counting_more (line (take n rs)) 0 m
+    ∙ (λ i. front_lines rs n m (omega arith) i ++ record_line (0 + m) (get_or-take n rs (0 + m) unplaced (omega arith) i))
+    ∙ sym (joined_counting_more (line rs) 0 m)
+
+-- so are the lines of a done packing
+pub front_packed :
+    (results : List (Placed Counted)) (m : ℕ) (c : Chip Count) → m ≤ length results
+    → chip_lines (length (take m results)) (map (carry_placed count_of) (take m results)) c
+    ≡ chip_lines m (map (carry_placed count_of) results) c
+front_packed results m c h =
+    ap (λ n. chip_lines n (map (carry_placed count_of) (take m results)) c) (length-take-le m results h)
+    ∙ ap (λ rs. chip_lines m rs c) (sym (take-map (carry_placed count_of) m results))
+    ∙ ap (λ ls. chip_line c.width.long c.height.long c.area ++ ls ++ edge_line c.width.borders c.height.borders)
+    (front_lines (map (carry_placed count_of) results) m m (omega arith))

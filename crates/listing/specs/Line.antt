@@ -1,6 +1,20 @@
 -- The lines of the listing: a word and its numbers in columns, ended by byte 10.
-use Rattle.std.specs.Prelude.{ℕ, List, [], ◌∷◌, ◌++◌, codes}
+use Rattle.std.specs.Prelude.{◌≡◌, ℕ, List, [], ◌∷◌, ◌++◌, OnOk, Result, codes}
 use Rattle.listing.specs.Padded.{padded}
+use Rattle.listing.specs.declared.lines.Column.{Column}
+use Rattle.std.specs.List.{flat_map}
+
+-- numbers in their columns
+abbrev pub columns_text : List Column → List ℕ
+columns_text columns = flat_map (λ c. padded c.width c.number) columns
+
+-- a word, numbers in their columns, and byte 10
+abbrev pub line_text : List ℕ → List Column → List ℕ
+line_text word columns = word ++ columns_text columns ++ (10 ∷ [])
+
+-- where nothing fails, the bytes stand behind those that were there
+abbrev pub Appends : {E : Type 0} → List ℕ → List ℕ → List ℕ → Result (Unit {0}) E → Type 0
+Appends old new bytes result = OnOk result (new ≡ old ++ bytes)
 
 -- What stops the listing: FAIL, number and sheet in four columns, line and column in six.
 abbrev pub fail_line : ℕ → ℕ → ℕ → ℕ → List ℕ

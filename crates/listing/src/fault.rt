@@ -1,20 +1,23 @@
 // The line of a fault of the sheets.
 ghost use Rattle.listing.specs.FaultLine.{fault_line};
-ghost use Rattle.std.specs.Prelude.{◌≡◌, ◌++◌, OnOk};
+ghost use Rattle.listing.specs.Line.{Appends};
 
-use crate::lines::append_fail;
+use crate::lines::{Column, append_line};
 use sheets::Fault;
 use std::alloc::AllocError;
 
 // Appends the line of a fault that the reading answered.
 pub(crate) fn append_fault(out: &mut Vec<u8>, fault: Fault<'_>) -> Result<(), AllocError>
-    ensures { OnOk result (out.new.items ≡ out.old.items ++ fault_line fault.entry.wrong fault.entry.sheet fault.entry.line fault.entry.column) }
+    ensures { Appends out.old.items out.new.items (fault_line fault.entry.wrong fault.entry.sheet fault.entry.line fault.entry.column) result }
 {
-    append_fail(
+    append_line(
         out,
-        fault.wrong.number() as u64,
-        fault.sheet.number() as u64,
-        fault.line as u64,
-        fault.column as u64,
+        b"FAIL",
+        &[
+            Column { width: 4, number: fault.wrong.number() as u64 },
+            Column { width: 4, number: fault.sheet.number() as u64 },
+            Column { width: 6, number: fault.line as u64 },
+            Column { width: 6, number: fault.column as u64 },
+        ],
     )
 }

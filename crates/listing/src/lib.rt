@@ -2,7 +2,7 @@
 #![tactic(auto)]
 
 mod bordered;
-mod columns;
+
 mod deciding;
 mod fault;
 mod laws;

@@ -1,79 +1,51 @@
-// The lines of the listing.
-ghost use Rattle.listing.specs.Line.{chip_line, edge_line, fail_line, module_line, word_line};
-ghost use Rattle.std.specs.Prelude.{◌≡◌, ◌++◌, OnOk};
+// The lines of the listing: a word, numbers in columns, and byte 10.
+ghost use Rattle.listing.specs.Line.{Appends, line_text, word_line};
+ghost use Rattle.listing.specs.Padded.{padded};
+ghost use Rattle.sheets.specs.Fields.{field_number};
+ghost use Rattle.std.specs.Prelude.{◌≡◌, Some, OnOk};
 
-use crate::columns::{append_number, append_word, end_line};
 use std::alloc::AllocError;
 
-// Appends the line of a fault.
-pub(crate) fn append_fail(
+// A number that is right-aligned in as many columns; a longer one is written whole.
+#[derive(Clone, Copy)]
+pub(crate) struct Column {
+    pub width: usize,
+    pub number: u64,
+}
+
+// Appends a number in its columns.
+fn append_number(out: &mut Vec<u8>, column: Column) -> Result<(), AllocError>
+    ensures bytes { Appends out.old.items out.new.items (padded column.width column.number) result }
+    ensures reads_back { OnOk result (field_number (padded column.width column.number) ≡ Some column.number) }
+{
+    let Column { width, number } = column;
+    let text = format!(in *out.allocator(); "{number:>width$}")?;
+    out.extend_from_slice(text.as_bytes())
+}
+
+// Appends a line: a word, or none, and numbers in columns.
+pub(crate) fn append_line(
     out: &mut Vec<u8>,
-    number: u64,
-    sheet: u64,
-    line: u64,
-    column: u64,
+    word: &[u8],
+    columns: &[Column],
 ) -> Result<(), AllocError>
-    ensures { OnOk result (out.new.items ≡ out.old.items ++ fail_line number sheet line column) }
+    ensures { Appends out.old.items out.new.items (line_text word.now columns.now) result }
 {
-    append_word(out, b"FAIL")?;
-    append_number(out, 4, number)?;
-    append_number(out, 4, sheet)?;
-    append_number(out, 6, line)?;
-    append_number(out, 6, column)?;
-    end_line(out)?;
+    out.extend_from_slice(word)?;
+    for column in columns {
+        append_number(out, *column)?;
+    }
+    out.push(b'\n')?;
     Ok(())
 }
 
-// Appends a word's line with its number.
-pub(crate) fn append_answer(out: &mut Vec<u8>, word: &[u8], n: u64) -> Result<(), AllocError>
-    ensures { OnOk result (out.new.items ≡ out.old.items ++ word_line word.now n) }
-{
-    append_word(out, word)?;
-    append_number(out, 4, n)?;
-    end_line(out)?;
-    Ok(())
-}
-
-// Appends the line of a chip: its width, height and area.
-pub(crate) fn append_chip(
+// Appends the line of a command: its word, and 0 or the number of its refusal.
+pub(crate) fn append_answer(
     out: &mut Vec<u8>,
-    width: u64,
-    height: u64,
-    area: u64,
+    word: &[u8],
+    number: u16,
 ) -> Result<(), AllocError>
-    ensures { OnOk result (out.new.items ≡ out.old.items ++ chip_line width height area) }
+    ensures { Appends out.old.items out.new.items (word_line word.now number) result }
 {
-    append_word(out, b"CHIP")?;
-    append_number(out, 10, width)?;
-    append_number(out, 10, height)?;
-    append_number(out, 16, area)?;
-    end_line(out)?;
-    Ok(())
-}
-
-// Appends the line of a placed module: its number and its near edges.
-pub(crate) fn append_module(
-    out: &mut Vec<u8>,
-    i: u64,
-    left: u64,
-    bottom: u64,
-) -> Result<(), AllocError>
-    ensures { OnOk result (out.new.items ≡ out.old.items ++ module_line i left bottom) }
-{
-    append_number(out, 4, i)?;
-    append_number(out, 10, left)?;
-    append_number(out, 10, bottom)?;
-    end_line(out)?;
-    Ok(())
-}
-
-// Appends the line of the chip's borders.
-pub(crate) fn append_edge(out: &mut Vec<u8>, across: u64, up: u64) -> Result<(), AllocError>
-    ensures { OnOk result (out.new.items ≡ out.old.items ++ edge_line across up) }
-{
-    append_word(out, b"EDGE")?;
-    append_number(out, 4, across)?;
-    append_number(out, 4, up)?;
-    end_line(out)?;
-    Ok(())
+    append_line(out, word, &[Column { width: 4, number: number as u64 }])
 }

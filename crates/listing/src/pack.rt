@@ -1,9 +1,10 @@
 // PACK at a plan.
 ghost use Rattle.lengths.specs.CountedLengths.{count_of};
+ghost use Rattle.listing.specs.Line.{Appends};
 ghost use Rattle.listing.specs.PackLines.{pack_lines};
 ghost use Rattle.planner.specs.States.{state_of};
 ghost use Rattle.plans.specs.CarriedPackings.{carry_sides};
-ghost use Rattle.std.specs.Prelude.{◌≡◌, ◌++◌, map, OnOk};
+ghost use Rattle.std.specs.Prelude.{map};
 
 use crate::lines::append_answer;
 use crate::packed::append_packing;
@@ -19,7 +20,7 @@ pub(crate) fn append_pack<R: Representation>(
     plan: &Plan<R>,
     sides: &[Sides<Counted>],
 ) -> Result<(), AllocError>
-    ensures { OnOk result (out.new.items ≡ out.old.items ++ pack_lines (state_of R.Representation.means plan.now) (map (carry_sides count_of) sides.now)) }
+    ensures { Appends out.old.items out.new.items (pack_lines (state_of R.Representation.means plan.now) (map (carry_sides count_of) sides.now)) result }
 {
     let edge = Counted::origin();
     let nowhere = Placed {
@@ -32,9 +33,8 @@ pub(crate) fn append_pack<R: Representation>(
     match plan.pack(sides, &mut results) {
         Ok(chip) => {
             append_answer(out, b"PACK", 0)?;
-            append_packing(out, plan.modules(), &results, chip)?;
+            append_packing(out, &results[..plan.modules()], chip)
         }
-        Err(refusal) => append_answer(out, b"PACK", refusal.number() as u64)?,
+        Err(refusal) => append_answer(out, b"PACK", refusal.number()),
     }
-    Ok(())
 }

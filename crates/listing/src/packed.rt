@@ -1,64 +1,57 @@
 // The lines of a packing.
-ghost use Rattle.std.specs.Prelude.{◌≡◌, ◌≤◌, ◌++◌, map, length, OnOk};
+ghost use Rattle.std.specs.Prelude.{◌≤◌, map, length};
 ghost use Rattle.lengths.specs.CountedLengths.{count_of};
-ghost use Rattle.listing.specs.Line.{edge_line};
+ghost use Rattle.listing.specs.Line.{Appends, edge_line};
 ghost use Rattle.listing.specs.PackLines.{chip_lines, record_lines};
 ghost use Rattle.plans.specs.CarriedPackings.{carry_chip, carry_placed};
 
-use crate::lines::{append_chip, append_edge, append_module};
+use crate::lines::{Column, append_line};
 use lengths::Counted;
 use plans::{Chip, Placed};
 use std::alloc::AllocError;
 
-// Appends the lines of the first modules of a result list.
-pub(crate) fn append_records(
-    out: &mut Vec<u8>,
-    modules: usize,
-    results: &[Placed<Counted>],
-) -> Result<(), AllocError>
-    requires { modules ≤ length results.now }
-    ensures { OnOk result (out.new.items ≡ out.old.items ++ record_lines modules (map (carry_placed count_of) results.now)) }
+// Appends the lines of the modules of a result list, from module 0.
+fn append_records(out: &mut Vec<u8>, results: &[Placed<Counted>]) -> Result<(), AllocError>
+    ensures { Appends out.old.items out.new.items (record_lines (length results.now) (map (carry_placed count_of) results.now)) result }
 {
-    for i in 0..modules {
-        let placed = results[i];
-        append_module(
+    for (i, placed) in results.iter().enumerate() {
+        append_line(
             out,
-            i as u64,
-            placed.left.length() as u64,
-            placed.bottom.length() as u64,
+            b"",
+            &[
+                Column { width: 4, number: i as u64 },
+                Column { width: 10, number: placed.left.length() as u64 },
+                Column { width: 10, number: placed.bottom.length() as u64 },
+            ],
         )?;
     }
     Ok(())
 }
 
-// Appends the line of a chip's borders.
-fn append_borders(out: &mut Vec<u8>, chip: Chip<Counted>) -> Result<(), AllocError>
-    ensures { OnOk result (out.new.items ≡ out.old.items ++ edge_line (count_of chip.width).borders (count_of chip.height).borders) }
-{
-    append_edge(
-        out,
-        chip.width.borders() as u64,
-        chip.height.borders() as u64,
-    )
-}
-
 // Appends the lines of a done packing: the chip, its modules and its borders.
 pub(crate) fn append_packing(
     out: &mut Vec<u8>,
-    modules: usize,
     results: &[Placed<Counted>],
     chip: Chip<Counted>,
 ) -> Result<(), AllocError>
-    requires { modules ≤ length results.now }
-    ensures { OnOk result (out.new.items ≡ out.old.items ++ chip_lines modules (map (carry_placed count_of) results.now) (carry_chip count_of chip)) }
+    ensures { Appends out.old.items out.new.items (chip_lines (length results.now) (map (carry_placed count_of) results.now) (carry_chip count_of chip)) result }
 {
-    append_chip(
+    append_line(
         out,
-        chip.width.length() as u64,
-        chip.height.length() as u64,
-        chip.area,
+        b"CHIP",
+        &[
+            Column { width: 10, number: chip.width.length() as u64 },
+            Column { width: 10, number: chip.height.length() as u64 },
+            Column { width: 16, number: chip.area },
+        ],
     )?;
-    append_records(out, modules, results)?;
-    append_borders(out, chip)?;
-    Ok(())
+    append_records(out, results)?;
+    append_line(
+        out,
+        b"EDGE",
+        &[
+            Column { width: 4, number: chip.width.borders() as u64 },
+            Column { width: 4, number: chip.height.borders() as u64 },
+        ],
+    )
 }

@@ -47,15 +47,15 @@ fn run_command<R: Representation>(
     match command {
         Command::Change(wanted) => {
             let number = change(plan, hand, wanted);
-            append_answer(out, change_word(wanted), number as u64)
+            append_answer(out, change_word(wanted), number)
         }
         Command::Keep => {
             let number = keep(plan, hand);
-            append_answer(out, b"KEEP", number as u64)
+            append_answer(out, b"KEEP", number)
         }
         Command::Undo => {
             let number = undo(plan, hand);
-            append_answer(out, b"UNDO", number as u64)
+            append_answer(out, b"UNDO", number)
         }
         Command::Pack => append_pack(out, plan, sides),
     }
