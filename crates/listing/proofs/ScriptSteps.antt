@@ -2,6 +2,7 @@
 use Rattle.std.proofs.Common.{◌≡◌, ℕ, zero, suc, ◌+◌, ◌-◌, ◌<◌, ◌≤◌, Bool, true, false, cond, List, [], ◌++◌, length, Some, None, Ok, Err, MatchBool, Option, Result, sym, refl, ap, ◌∙◌, arith, Bor, ltb-true}
 use Rattle.listing.specs.CommandLines.{command_lines, state_after}
 use Rattle.listing.specs.FaultLine.{fault_line, finding_line}
+use Rattle.listing.specs.Line.{Appends}
 use Rattle.listing.specs.ScriptLines.{fault_or, lines_from}
 use Rattle.plans.specs.Kinds.{Count}
 use Rattle.plans.specs.Model.{State}
@@ -107,3 +108,10 @@ pub written_on :
     → written' ++ left' ≡ whole
 written_on written written' part left left' whole more splits all =
     ap (λ xs. xs ++ left') more ∙ append_assoc written part left' ∙ ap (λ xs. written ++ xs) (sym splits) ∙ all
+
+-- the last part is written behind what was written before
+pub appended_last :
+    {E : Type 0} (r : Result (Unit {0}) E) (old before after bytes whole : List ℕ) → before ++ bytes ≡ old ++ whole
+    → Appends before after bytes r → Appends old after whole r
+appended_last (Ok u) old before after bytes whole e h = h ∙ e
+appended_last (Err x) old before after bytes whole e h = tt

@@ -1,7 +1,10 @@
 -- Sides that were read, with one border each.
-use Rattle.std.specs.Prelude.{ℕ, ◌<◌, ◌≤◌, List, slice_index_or}
+use Rattle.std.specs.Prelude.{ℕ, ◌<◌, ◌≤◌, List, map, slice_index_or}
+use Rattle.lengths.specs.CountedLengths.{count_of}
+use Rattle.lengths.specs.declared.counted.Counted.{Counted}
 use Rattle.lengths.specs.declared.plain.Plain.{Plain}
 use Rattle.listing.specs.Whole.{bordered}
+use Rattle.plans.specs.CarriedPackings.{carry_sides}
 use Rattle.plans.specs.Kinds.{Count}
 use Rattle.plans.specs.declared.measures.Sides.{Sides}
 use Rattle.sheets.specs.Lists.{sides_of}
@@ -19,3 +22,7 @@ pub record PossibleSide (side : Plain) : Type 0 where
 abbrev pub Possible : ℕ → List (Sides Plain) → Type 0
 Possible m sides =
     (k : ℕ) → k < m → PossibleSide (slice_index_or sides k (sides_of 0 0)).width × PossibleSide (slice_index_or sides k (sides_of 0 0)).height
+
+-- Counted sides, by their numbers.
+abbrev pub in_counts : List (Sides Counted) → List (Sides Count)
+in_counts sides = map (carry_sides count_of) sides

@@ -1,6 +1,5 @@
--- What a command that changes a plan or ends its trial comes to: the model's step, and the decision at hand.
-use Rattle.std.specs.Prelude.{◌≡◌, ℕ, is_some, Option}
-use Rattle.listing.specs.CommandLines.{answer_number}
+-- What a command that changes a plan or ends its trial comes to, and the decision at hand.
+use Rattle.std.specs.Prelude.{◌≡◌, is_some, Option, Result}
 use Rattle.planner.specs.declared.decision.Decision.{Decision}
 use Rattle.plans.specs.Model.{State, Step}
 
@@ -8,8 +7,7 @@ use Rattle.plans.specs.Model.{State, Step}
 abbrev pub AtHand : Option Decision → State → Type 0
 AtHand d s = is_some d ≡ is_some s.noted
 
--- The printed number and the state are those of a step of the model, and a decision is at hand when it should.
-pub record Decided {E : Type 0} (number : E → ℕ) (step : Step E) (printed : ℕ) (after : State) (d : Option Decision) : Type 0 where
-  pub prints : printed ≡ answer_number number step.answer
+-- The answer and the state are those of a step of the model.
+pub record Does {E : Type 0} (step : Step E) (answer : Result (Unit {0}) E) (after : State) : Type 0 where
+  pub answers : answer ≡ step.answer
   pub leads : after ≡ step.state
-  pub at_hand : AtHand d after

@@ -3,13 +3,14 @@
 
 mod bordered;
 
-mod deciding;
+
 mod fault;
 mod laws;
 mod lines;
 mod pack;
 mod packed;
 mod script;
+mod scripted;
 mod whole;
 
 pub use laws::{script_laws, worked_listings};

@@ -1,10 +1,8 @@
 // PACK at a plan.
-ghost use Rattle.lengths.specs.CountedLengths.{count_of};
+ghost use Rattle.listing.specs.Bordered.{in_counts};
 ghost use Rattle.listing.specs.Line.{Appends};
 ghost use Rattle.listing.specs.PackLines.{pack_lines};
 ghost use Rattle.planner.specs.States.{state_of};
-ghost use Rattle.plans.specs.CarriedPackings.{carry_sides};
-ghost use Rattle.std.specs.Prelude.{map};
 
 use crate::lines::append_answer;
 use crate::packed::append_packing;
@@ -20,7 +18,7 @@ pub(crate) fn append_pack<R: Representation>(
     plan: &Plan<R>,
     sides: &[Sides<Counted>],
 ) -> Result<(), AllocError>
-    ensures { Appends out.old.items out.new.items (pack_lines (state_of R.Representation.means plan.now) (map (carry_sides count_of) sides.now)) result }
+    ensures { Appends out.old.items out.new.items (pack_lines (state_of R.Representation.means plan.now) (in_counts sides.now)) result }
 {
     let edge = Counted::origin();
     let nowhere = Placed {

@@ -1,20 +1,19 @@
 // The script at a plan, line by line.
-ghost use Rattle.lengths.specs.CountedLengths.{count_of};
-ghost use Rattle.listing.specs.CommandLines.{change_word, command_lines, state_after};
-ghost use Rattle.listing.specs.Deciding.{AtHand};
+ghost use Rattle.listing.specs.Bordered.{in_counts};
+ghost use Rattle.listing.specs.CommandLines.{answer_number, change_word, command_lines, state_after};
+ghost use Rattle.listing.specs.Line.{Appends};
 ghost use Rattle.listing.specs.ScriptLines.{lines_from};
 ghost use Rattle.planner.specs.States.{state_of};
-ghost use Rattle.plans.specs.CarriedPackings.{carry_sides};
 ghost use Rattle.plans.specs.Model.{made_of};
-ghost use Rattle.std.specs.Prelude.{◌≡◌, ◌++◌, map, length, OnOk};
+ghost use Rattle.plans.specs.Numbers.{number_of_plan_change, number_of_trial};
+ghost use Rattle.std.specs.Prelude.{◌≡◌, length};
 
-use crate::deciding::{change, close, keep, undo};
 use crate::fault::append_fault;
 use crate::lines::append_answer;
 use crate::pack::append_pack;
+use crate::scripted::Scripted;
 use lengths::Counted;
-use planner::{Decision, Plan};
-use plans::{Change, Sides};
+use plans::{Change, PlanChangeRefusal, Sides, TrialRefusal};
 use representations::Representation;
 use sheets::{Command, Place, read_command};
 use std::alloc::AllocError;
@@ -31,63 +30,64 @@ fn change_word(wanted: Change) -> &'static [u8]
     }
 }
 
+fn number_of_change(answer: Result<(), PlanChangeRefusal>) -> u16
+    ensures { result ≡ answer_number number_of_plan_change answer }
+{
+    match answer {
+        Ok(()) => 0,
+        Err(refusal) => refusal.number(),
+    }
+}
+
+fn number_of_ending(answer: Result<(), TrialRefusal>) -> u16
+    ensures { result ≡ answer_number number_of_trial answer }
+{
+    match answer {
+        Ok(()) => 0,
+        Err(refusal) => refusal.number(),
+    }
+}
+
 // Makes the call of one command, and appends its lines.
 fn run_command<R: Representation>(
     out: &mut Vec<u8>,
-    plan: &mut Plan<R>,
-    hand: &mut Option<Decision>,
+    scripted: &mut Scripted<R>,
     sides: &[Sides<Counted>],
     command: Command,
 ) -> Result<(), AllocError>
-    requires { AtHand hand.old (state_of R.Representation.means plan.old) }
-    ensures bytes { OnOk result (out.new.items ≡ out.old.items ++ command_lines (map (carry_sides count_of) sides.now) (state_of R.Representation.means plan.old) command) }
-    ensures leads { state_of R.Representation.means plan.new ≡ state_after (state_of R.Representation.means plan.old) command }
-    ensures hand { AtHand hand.new (state_of R.Representation.means plan.new) }
+    ensures bytes { Appends out.old.items out.new.items (command_lines (in_counts sides.now) (state_of R.Representation.means scripted.old.plan) command) result }
+    ensures leads { state_of R.Representation.means scripted.new.plan ≡ state_after (state_of R.Representation.means scripted.old.plan) command }
 {
     match command {
         Command::Change(wanted) => {
-            let number = change(plan, hand, wanted);
+            let number = number_of_change(scripted.change(wanted));
             append_answer(out, change_word(wanted), number)
         }
-        Command::Keep => {
-            let number = keep(plan, hand);
-            append_answer(out, b"KEEP", number)
-        }
-        Command::Undo => {
-            let number = undo(plan, hand);
-            append_answer(out, b"UNDO", number)
-        }
-        Command::Pack => append_pack(out, plan, sides),
+        Command::Keep => append_answer(out, b"KEEP", number_of_ending(scripted.keep())),
+        Command::Undo => append_answer(out, b"UNDO", number_of_ending(scripted.undo())),
+        Command::Pack => append_pack(out, &scripted.plan, sides),
     }
 }
 
 // Runs the script from a place of the plan sheet to its end or its first fault, and appends its lines.
 fn run_script<R: Representation>(
     out: &mut Vec<u8>,
-    plan: &mut Plan<R>,
-    hand: &mut Option<Decision>,
+    scripted: &mut Scripted<R>,
     sides: &[Sides<Counted>],
     sheet: &[u8],
     start: Place,
 ) -> Result<(), AllocError>
-    requires { AtHand hand.old (state_of R.Representation.means plan.old) }
-    ensures bytes { OnOk result (out.new.items ≡ out.old.items ++ lines_from sheet.now (map (carry_sides count_of) sides.now) (length sheet.now) start (state_of R.Representation.means plan.old)) }
-    ensures hand { AtHand hand.new (state_of R.Representation.means plan.new) }
+    ensures { Appends out.old.items out.new.items (lines_from sheet.now (in_counts sides.now) (length sheet.now) start (state_of R.Representation.means scripted.old.plan)) result }
 {
     let mut at = start;
     loop {
         match read_command(sheet, at) {
-            Ok(read) => match read {
-                Some(line) => {
-                    run_command(out, plan, hand, sides, line.command)?;
-                    at = line.next;
-                }
-                None => return Ok(()),
-            },
-            Err(fault) => {
-                append_fault(out, fault)?;
-                return Ok(());
+            Ok(Some(line)) => {
+                run_command(out, scripted, sides, line.command)?;
+                at = line.next;
             }
+            Ok(None) => return Ok(()),
+            Err(fault) => return append_fault(out, fault),
         }
     }
 }
@@ -100,11 +100,10 @@ pub(crate) fn append_script<R: Representation + Drop>(
     sheet: &[u8],
     start: Place,
 ) -> Result<(), AllocError>
-    ensures { OnOk result (out.new.items ≡ out.old.items ++ lines_from sheet.now (map (carry_sides count_of) sides.now) (length sheet.now) start (made_of (R.Representation.means representation))) }
+    ensures { Appends out.old.items out.new.items (lines_from sheet.now (in_counts sides.now) (length sheet.now) start (made_of (R.Representation.means representation))) result }
 {
-    let mut plan = Plan::new(representation);
-    let mut hand = None;
-    let listed = run_script(out, &mut plan, &mut hand, sides, sheet, start);
-    close(&mut plan, hand);
+    let mut scripted = Scripted::new(representation);
+    let listed = run_script(out, &mut scripted, sides, sheet, start);
+    let _ = scripted.close();
     listed
 }

@@ -1,0 +1,76 @@
+// A plan under the commands of a script: the call that each makes, with the decision on an open trial kept at hand.
+ghost use Rattle.listing.specs.Deciding.{AtHand, Does};
+ghost use Rattle.planner.specs.States.{state_of};
+ghost use Rattle.std.specs.Prelude.{◌≡◌};
+
+use planner::{Decision, Plan};
+use plans::{Change, PlanChangeRefusal, TrialRefusal};
+use representations::Representation;
+
+// The plan, and the decision on its trial if one is open.
+pub(crate) struct Scripted<R: Representation> {
+    pub plan: Plan<R>,
+    hand: Option<Decision>,
+    ghost at_hand: { AtHand hand (state_of R.Representation.means plan) },
+}
+
+impl<R: Representation> Scripted<R> {
+    ghost use Rattle.plans.specs.Model.{made_of, model_change, model_keep, model_undo};
+
+    // A plan over a representation as it is.
+    pub fn new(representation: R) -> Scripted<R>
+        ensures { state_of R.Representation.means result.plan ≡ made_of (R.Representation.means representation) }
+    {
+        Scripted {
+            plan: Plan::new(representation),
+            hand: None,
+        }
+    }
+
+    // Makes a change on trial and takes its decision to hand.
+    pub fn change(&mut self, wanted: Change) -> Result<(), PlanChangeRefusal>
+        ensures { Does (model_change (state_of R.Representation.means self.old.plan) wanted) result (state_of R.Representation.means self.new.plan) }
+    {
+        let decision = self.plan.change(wanted)?;
+        match self.hand.replace(decision) {
+            None => Ok(()),
+            Some(_) => unreachable!(),
+        }
+    }
+
+    // Keeps the change on trial, if there is one.
+    pub fn keep(&mut self) -> Result<(), TrialRefusal>
+        ensures { Does (model_keep (state_of R.Representation.means self.old.plan)) result (state_of R.Representation.means self.new.plan) }
+    {
+        let decision = self.hand.take().ok_or(TrialRefusal::NoTrial)?;
+        match self.plan.keep(decision) {
+            Ok(()) => Ok(()),
+            Err(_) => unreachable!(),
+        }
+    }
+
+    // Undoes the change on trial, if there is one.
+    pub fn undo(&mut self) -> Result<(), TrialRefusal>
+        ensures { Does (model_undo (state_of R.Representation.means self.old.plan)) result (state_of R.Representation.means self.new.plan) }
+    {
+        let decision = self.hand.take().ok_or(TrialRefusal::NoTrial)?;
+        match self.plan.undo(decision) {
+            Ok(()) => Ok(()),
+            Err(_) => unreachable!(),
+        }
+    }
+
+    // Undoes a trial that is still open, and gives the plan.
+    pub fn close(self) -> Plan<R>
+        ensures { state_of R.Representation.means result ≡ (model_undo (state_of R.Representation.means self.plan)).state }
+    {
+        let Scripted { mut plan, hand } = self;
+        if let Some(last) = hand {
+            match plan.undo(last) {
+                Ok(()) => {}
+                Err(_) => unreachable!(),
+            }
+        }
+        plan
+    }
+}
