@@ -1,6 +1,6 @@
 -- What sheets without a fault say: few modules, each of possible sides.
-use Rattle.std.proofs.Common.{◌≡◌, ℕ, zero, suc, ◌+◌, ◌<◌, ◌≤◌, false, not, ltb, List, [], ◌∷◌, ◌++◌, map, length, get_or, take, is_some, Some, None, sym, refl, ap, ◌∙◌, subst, ⊎_elim, arith, lt-ltb}
-use Rattle.listing.specs.Bordered.{Possible, PossibleSide, bordered_sides}
+use Rattle.std.proofs.Common.{◌≡◌, ℕ, All, zero, suc, ◌+◌, ◌<◌, ◌≤◌, false, not, ltb, List, [], ◌∷◌, ◌++◌, map, length, get_or, take, is_some, Some, None, sym, refl, ap, ◌∙◌, subst, ⊎_elim, arith, lt-ltb}
+use Rattle.listing.specs.Bordered.{PossibleSides, bordered_sides}
 use Rattle.listing.specs.Whole.{sides_on}
 use Rattle.lengths.specs.declared.plain.Plain.{Plain}
 use Rattle.plans.specs.declared.measures.Sides.{Sides}
@@ -12,7 +12,7 @@ use Rattle.sheets.specs.Words.{head_word}
 use Rattle.sheets.specs.declared.fault.Sheet.TheVariants.{Plan, Sizes}
 use Rattle.sheets.specs.declared.fault.Wrong.TheVariants.{BadField, OutOfRange, UnknownWord}
 use Rattle.std.proofs.lemmas.List.FromFn.{fill_by_all}
-use Rattle.std.proofs.lemmas.List.{get_or-take, length-take-le}
+use Rattle.std.proofs.lemmas.List.{get_or-take, get_or_default, length-take-le}
 use Rattle.std.proofs.lemmas.Bool.{cond-true, cond-false, cases_Bool}
 use Rattle.std.proofs.lemmas.Bool.Decides.{nat_tests}
 use Rattle.std.specs.List.{range_with_len, flat_map}
@@ -99,11 +99,15 @@ below_filled f n k xs filled h = filled k ∙ cond-true (ltb k n) (f k) (sides_o
 -- each module has possible sides
 pub sides_possible :
     (sizes plan : List ℕ) (xs : List (Sides Plain)) → first (all_checks sizes plan 64 4096 64) ≡ None
-    → Filled (sides_of 0 0) (sides_read sizes) (modules_of plan) xs → Possible (modules_of plan) xs
-sides_possible sizes plan xs e filled k h =
-    let both = line_passed sizes k (each_passed (size_checks sizes) (modules_of plan) k (parts_passed sizes plan e).1 h) in
-    subst (λ s. PossibleSide s.width × PossibleSide s.height) (sym (below_filled (sides_read sizes) (modules_of plan) k xs filled h))
-    (record { some = both.0.0; small = both.0.1 }, record { some = both.1.0; small = both.1.1 })
+    → Filled (sides_of 0 0) (sides_read sizes) (modules_of plan) xs → modules_of plan ≤ length xs
+    → All PossibleSides (take (modules_of plan) xs)
+sides_possible sizes plan xs e filled room k d h =
+    let m = modules_of plan in
+    let l : k < m = omega (arith, length-take-le m xs room) in
+    let both = line_passed sizes k (each_passed (size_checks sizes) m k (parts_passed sizes plan e).1 l) in
+    subst PossibleSides
+    (sym (get_or-take m xs k d l ∙ get_or_default xs k d (sides_of 0 0) (omega arith) ∙ below_filled (sides_read sizes) m k xs filled l))
+    (record { width = record { some = both.0.0; small = both.0.1 }; height = record { some = both.1.0; small = both.1.1 } })
 
 -- the sides that were read, with their borders, are those of the definition
 pub sides_listed :

@@ -6,5 +6,4 @@ pub mod Packings
 pub mod ScriptSteps
 pub mod ScriptEnds
 pub mod Faultless
-pub mod Borders
 pub mod Outcomes

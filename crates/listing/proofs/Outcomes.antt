@@ -1,7 +1,7 @@
 -- What the answer of reading two sheets says of their listing, by its two outcomes.
-use Rattle.std.proofs.Common.{◌≡◌, ℕ, ◌≤◌, List, map, length, take, Some, None, Ok, Err, Option, sym, refl, ap, ◌∙◌, subst, ap₂, Bor}
+use Rattle.std.proofs.Common.{◌≡◌, ℕ, All, ◌≤◌, List, map, length, take, Some, None, Ok, Err, Option, sym, refl, ap, ◌∙◌, subst, ap₂, Bor}
 use Rattle.listing.proofs.Faultless.{few_modules, sides_listed, sides_possible}
-use Rattle.listing.specs.Bordered.{Possible, bordered_sides}
+use Rattle.listing.specs.Bordered.{PossibleSides, bordered_sides}
 use Rattle.listing.specs.FaultLine.{fault_line}
 use Rattle.listing.specs.ScriptLines.{fault_or, lines_from}
 use Rattle.listing.specs.Whole.{script_lines, script_start, sheets_fault, sides_on, start_of, whole_listing}
@@ -46,10 +46,10 @@ module _ (sizes plan : Bor (List ℕ)) where
     pub few_parsed : p.modules ≤ 64
     few_parsed = subst (λ m. m ≤ 64) (sym done.2.modules) (few_modules sizes.now plan.now done.0)
 
-    pub possible_parsed : Possible p.modules after.sides
-    possible_parsed =
-        subst (λ m. Possible m after.sides) (sym done.2.modules)
-        (sides_possible sizes.now plan.now after.sides done.0 filled.sides_there)
+    pub possible_parsed : p.modules ≤ length after.sides → All PossibleSides (take p.modules after.sides)
+    possible_parsed room =
+        subst (λ m. All PossibleSides (take m after.sides)) (sym done.2.modules)
+        (sides_possible sizes.now plan.now after.sides done.0 filled.sides_there (subst (λ m. m ≤ length after.sides) done.2.modules room))
 
     -- the script's lines at what was loaded are the listing
     pub done_listed :

@@ -18,10 +18,10 @@ pub record PossibleSide (side : Plain) : Type 0 where
   pub some : 1 ≤ side.0
   pub small : side.0 ≤ 100000
 
--- The first m modules of a list have possible sides.
-abbrev pub Possible : ℕ → List (Sides Plain) → Type 0
-Possible m sides =
-    (k : ℕ) → k < m → PossibleSide (slice_index_or sides k (sides_of 0 0)).width × PossibleSide (slice_index_or sides k (sides_of 0 0)).height
+-- Two sides that a module can have.
+pub record PossibleSides (sides : Sides Plain) : Type 0 where
+  pub width : PossibleSide sides.width
+  pub height : PossibleSide sides.height
 
 -- Counted sides, by their numbers.
 abbrev pub in_counts : List (Sides Counted) → List (Sides Count)

@@ -1,12 +1,13 @@
 // Sides with one border, in counted lengths.
-ghost use Rattle.std.specs.Prelude.{◌≡◌, ◌≤◌, map, length, take};
+ghost use Rattle.std.specs.Prelude.{◌≡◌, map, All, IfOk};
 ghost use Rattle.lengths.specs.CountedLengths.{count_of};
-ghost use Rattle.listing.specs.Bordered.{Possible, PossibleSide, bordered_sides};
+ghost use Rattle.listing.specs.Bordered.{PossibleSide, PossibleSides, bordered_sides, in_counts};
 ghost use Rattle.listing.specs.Whole.{bordered};
 ghost use Rattle.plans.specs.CarriedPackings.{carry_sides};
 
-use lengths::{Counted, Length, Plain};
+use lengths::{Counted, Plain};
 use plans::Sides;
+use std::alloc::{AllocError, Global};
 
 // A side with one border.
 fn with_border(side: Plain) -> Counted
@@ -15,27 +16,32 @@ fn with_border(side: Plain) -> Counted
 {
     match Counted::new(side.0, 1) {
         Ok(counted) => counted,
-        Err(_) => unreachable(),
+        Err(_) => unreachable!(),
     }
 }
 
-// The sides of the first modules of a list, each with one border.
-pub(crate) fn with_borders(sides: &[Sides<Plain>], modules: usize) -> [Sides<Counted>; 64]
-    requires few { (modules ≤ 64) × (modules ≤ length sides.now) }
-    requires possible { Possible modules sides.now }
-    ensures { map (carry_sides count_of) (take modules result) ≡ map bordered_sides (take modules sides.now) }
+// The sides of one module, each with one border.
+fn with_both_borders(sides: &Sides<Plain>) -> Sides<Counted>
+    requires { PossibleSides sides.now }
+    ensures { carry_sides count_of result ≡ bordered_sides sides.now }
 {
-    let nothing = Sides {
-        width: Counted::origin(),
-        height: Counted::origin(),
-    };
-    let mut counted = [nothing; 64];
-    for i in 0..modules {
-        let side = sides[i];
-        counted[i] = Sides {
-            width: with_border(side.width),
-            height: with_border(side.height),
-        };
+    Sides {
+        width: with_border(sides.width),
+        height: with_border(sides.height),
     }
-    counted
+}
+
+// The sides of the modules of a list, each with one border.
+pub(crate) fn with_borders(
+    heap: Global,
+    sides: &[Sides<Plain>],
+) -> Result<Vec<Sides<Counted>>, AllocError>
+    requires { All PossibleSides sides.now }
+    ensures { IfOk result (λ counted. in_counts counted.items ≡ map bordered_sides sides.now) }
+{
+    let mut counted = Vec::with_capacity(heap, sides.len())?;
+    for own in sides {
+        counted.push(with_both_borders(own))?;
+    }
+    Ok(counted)
 }

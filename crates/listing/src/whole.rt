@@ -1,7 +1,8 @@
 // The whole listing of a task.
-ghost use Rattle.std.specs.Prelude.{◌≡◌, ◌≤◌, ◌++◌, map, length, take, IfOk, Some, OnOk};
+ghost use Rattle.std.specs.Prelude.{◌≡◌, All, map, length, IfOk, Some};
 ghost use Rattle.closure_graphs.specs.Meaning.{graphs_mean};
-ghost use Rattle.listing.specs.Bordered.{Possible, bordered_sides};
+ghost use Rattle.listing.specs.Bordered.{PossibleSides, bordered_sides};
+ghost use Rattle.listing.specs.Line.{Appends};
 ghost use Rattle.listing.specs.ScriptLines.{lines_from};
 ghost use Rattle.listing.specs.Whole.{start_of, whole_listing};
 
@@ -24,18 +25,14 @@ fn append_loaded(
     plan: &[u8],
     parsed: Parsed,
 ) -> Result<(), AllocError>
-    requires few { (parsed.modules ≤ 64) × (parsed.modules ≤ length sides.now) }
-    requires possible { Possible parsed.modules sides.now }
-    ensures { OnOk result (out.new.items ≡ out.old.items ++ lines_from plan.now (map bordered_sides (take parsed.modules sides.now)) (length plan.now) parsed.script (start_of (Some parsed.head) (graphs_mean graphs))) }
+    requires { All PossibleSides sides.now }
+    ensures { Appends out.old.items out.new.items (lines_from plan.now (map bordered_sides sides.now) (length plan.now) parsed.script (start_of (Some parsed.head) (graphs_mean graphs))) result }
 {
-    let modules = parsed.modules;
-    let counted = with_borders(sides, modules);
-    let own = &counted[0..modules];
+    let counted = with_borders(*out.allocator(), sides)?;
     match parsed.head {
-        Head::Plan => append_script(out, graphs, own, plan, parsed.script)?,
-        Head::Side => append_script(out, Transposed(graphs), own, plan, parsed.script)?,
+        Head::Plan => append_script(out, graphs, &counted, plan, parsed.script),
+        Head::Side => append_script(out, Transposed(graphs), &counted, plan, parsed.script),
     }
-    Ok(())
 }
 
 // The listing of a sizes sheet and a plan sheet.
@@ -59,7 +56,7 @@ pub fn listing<'a>(heap: Global, sizes: &'a [u8], plan: &'a [u8]) -> Result<Vec<
         &mut codes,
         &mut places,
     ) {
-        Ok(parsed) => append_loaded(&mut out, graphs, &sides, plan, parsed)?,
+        Ok(parsed) => append_loaded(&mut out, graphs, &sides[..parsed.modules], plan, parsed)?,
         Err(fault) => append_fault(&mut out, fault)?,
     }
     Ok(out)

@@ -1,11 +1,7 @@
 -- So far the sides of the modules that were passed have their borders.
-use Rattle.lengths.specs.CountedLengths.{count_of}
 use Rattle.listing.proofs.bordered.with_borders.Given as goal
-use Rattle.listing.specs.Bordered.{bordered_sides}
-use Rattle.plans.specs.CarriedPackings.{carry_sides}
-use Rattle.std.proofs.Common.{◌≡◌, map, length, take}
+use Rattle.listing.specs.Bordered.{bordered_sides, in_counts}
+use Rattle.std.proofs.Common.{◌≡◌, map, take, vec_items}
 
-abbrev pub invariant-loop-i : goal.invariant-loop-i
-invariant-loop-i l =
-    (length l.counted ≡ 64)
-    × (map (carry_sides count_of) (take l.i l.counted) ≡ map bordered_sides (take l.i l.sides))
+abbrev pub invariant-loop-own : goal.invariant-loop-own
+invariant-loop-own l = in_counts (vec_items l.counted) ≡ map bordered_sides (take l.own-index l.sides)

@@ -1,18 +1,29 @@
 -- With a fault its line is written, and else the lines of the script.
 use Rattle.std.proofs.Common.{◌≤◌, length, arith, rules}
+use Rattle.std.proofs.lemmas.List.{length-take-le}
 use Rattle.closure_graphs.specs.Meaning.{graphs_mean}
 use Rattle.listing.proofs.Outcomes.{done_listed, fault_listed, few_parsed, possible_parsed}
 use Rattle.listing.proofs.whole.listing.Goals as goal
 use Rattle.listing.proofs.whole.listing.Goals.{in-Ok+in_ok-append_loaded-in-Ok, in-Err+in_ok-append_fault-in-Err}
 
+pub slice_bounds-sides-end : goal.slice_bounds-sides-end
+slice_bounds-sides-end c =
+    let did = c.in-Ok.ensures in
+    let few : c.in-Ok.parsed.modules ≤ 64 = few_parsed c.args.sizes c.args.plan c.in-Ok.parsed did.answer _ _ did.lists in
+    omega arith
+
+pub slice_bounds-append_loaded-end : goal.slice_bounds-append_loaded-end
+slice_bounds-append_loaded-end c =
+    let did = c.in-Ok.ensures in
+    let few : c.in-Ok.parsed.modules ≤ 64 = few_parsed c.args.sizes c.args.plan c.in-Ok.parsed did.answer _ _ did.lists in
+    let room : c.in-Ok.parsed.modules ≤ length c.read.new.sides = omega arith in
+    omega (arith, length-take-le c.in-Ok.parsed.modules c.read.new.sides room)
+
 pub append_loaded-requires : goal.append_loaded-requires
 append_loaded-requires c =
-    let sizes = c.args.sizes in
-    let plan = c.args.plan in
     let did = c.in-Ok.ensures in
-    let few : c.in-Ok.parsed.modules ≤ 64 = few_parsed sizes plan c.in-Ok.parsed did.answer _ _ did.lists in
-    let room : c.in-Ok.parsed.modules ≤ length c.read.new.sides = omega arith in
-    record { few = (few, room); possible = possible_parsed sizes plan c.in-Ok.parsed did.answer _ _ did.lists }
+    let few : c.in-Ok.parsed.modules ≤ 64 = few_parsed c.args.sizes c.args.plan c.in-Ok.parsed did.answer _ _ did.lists in
+    possible_parsed c.args.sizes c.args.plan c.in-Ok.parsed did.answer _ _ did.lists (omega arith)
 
 pub returns : goal.returns
 returns c =
