@@ -6,7 +6,7 @@ use Rattle.std.specs.List.{flat_map}
 
 -- numbers in their columns
 abbrev pub columns_text : List Column → List ℕ
-columns_text columns = flat_map (λ c. padded c.width c.number) columns
+columns_text columns = flat_map (λ c. padded c.0 c.1) columns
 
 -- a word, numbers in their columns, and byte 10
 abbrev pub line_text : List ℕ → List Column → List ℕ

@@ -14,10 +14,10 @@ pub(crate) fn append_fault(out: &mut Vec<u8>, fault: Fault<'_>) -> Result<(), Al
         out,
         b"FAIL",
         &[
-            Column { width: 4, number: fault.wrong.number() as u64 },
-            Column { width: 4, number: fault.sheet.number() as u64 },
-            Column { width: 6, number: fault.line as u64 },
-            Column { width: 6, number: fault.column as u64 },
+            Column(4, fault.wrong.number() as u64),
+            Column(4, fault.sheet.number() as u64),
+            Column(6, fault.line as u64),
+            Column(6, fault.column as u64),
         ],
     )
 }

@@ -2,8 +2,6 @@
 #![tactic(auto)]
 
 mod bordered;
-
-
 mod fault;
 mod laws;
 mod lines;

@@ -6,19 +6,16 @@ ghost use Rattle.std.specs.Prelude.{◌≡◌, Some, OnOk};
 
 use std::alloc::AllocError;
 
-// A number that is right-aligned in as many columns; a longer one is written whole.
+// A width and a number that is right-aligned in it; a longer one is written whole.
 #[derive(Clone, Copy)]
-pub(crate) struct Column {
-    pub width: usize,
-    pub number: u64,
-}
+pub(crate) struct Column(pub usize, pub u64);
 
 // Appends a number in its columns.
 fn append_number(out: &mut Vec<u8>, column: Column) -> Result<(), AllocError>
-    ensures bytes { Appends out.old.items out.new.items (padded column.width column.number) result }
-    ensures reads_back { OnOk result (field_number (padded column.width column.number) ≡ Some column.number) }
+    ensures bytes { Appends out.old.items out.new.items (padded column.0 column.1) result }
+    ensures reads_back { OnOk result (field_number (padded column.0 column.1) ≡ Some column.1) }
 {
-    let Column { width, number } = column;
+    let Column(width, number) = column;
     let text = format!(in *out.allocator(); "{number:>width$}")?;
     out.extend_from_slice(text.as_bytes())
 }
@@ -40,12 +37,8 @@ pub(crate) fn append_line(
 }
 
 // Appends the line of a command: its word, and 0 or the number of its refusal.
-pub(crate) fn append_answer(
-    out: &mut Vec<u8>,
-    word: &[u8],
-    number: u16,
-) -> Result<(), AllocError>
+pub(crate) fn append_answer(out: &mut Vec<u8>, word: &[u8], number: u16) -> Result<(), AllocError>
     ensures { Appends out.old.items out.new.items (word_line word.now number) result }
 {
-    append_line(out, word, &[Column { width: 4, number: number as u64 }])
+    append_line(out, word, &[Column(4, number as u64)])
 }

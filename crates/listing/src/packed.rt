@@ -19,9 +19,9 @@ fn append_records(out: &mut Vec<u8>, results: &[Placed<Counted>]) -> Result<(), 
             out,
             b"",
             &[
-                Column { width: 4, number: i as u64 },
-                Column { width: 10, number: placed.left.length() as u64 },
-                Column { width: 10, number: placed.bottom.length() as u64 },
+                Column(4, i as u64),
+                Column(10, placed.left.length() as u64),
+                Column(10, placed.bottom.length() as u64),
             ],
         )?;
     }
@@ -40,9 +40,9 @@ pub(crate) fn append_packing(
         out,
         b"CHIP",
         &[
-            Column { width: 10, number: chip.width.length() as u64 },
-            Column { width: 10, number: chip.height.length() as u64 },
-            Column { width: 16, number: chip.area },
+            Column(10, chip.width.length() as u64),
+            Column(10, chip.height.length() as u64),
+            Column(16, chip.area),
         ],
     )?;
     append_records(out, results)?;
@@ -50,8 +50,8 @@ pub(crate) fn append_packing(
         out,
         b"EDGE",
         &[
-            Column { width: 4, number: chip.width.borders() as u64 },
-            Column { width: 4, number: chip.height.borders() as u64 },
+            Column(4, chip.width.borders() as u64),
+            Column(4, chip.height.borders() as u64),
         ],
     )
 }
