@@ -3,19 +3,15 @@
 
 mod cases;
 
-use cases::next_case;
+use cases::Cases;
 use std::fs;
 use std::io::Write;
 
 fn run(rt: &HostRuntime) -> anyhow::Result<()> {
     let bytes = fs::read(rt, "cases.txt")?;
-    let mut rest = bytes.as_slice();
-    let mut compared = 0;
-    // a case takes a byte at least
-    for k in 0..bytes.len() {
-        let Some(case) = next_case(rest) else {
-            break;
-        };
+    let mut cases = Cases(&bytes);
+    let mut compared = 0u64;
+    for case in &mut cases {
         let made = listing::listing(rt.alloc(), case.sizes, case.plan)?;
         let said: &[u8] = if made.as_slice() == case.expected {
             b"same: "
@@ -25,10 +21,9 @@ fn run(rt: &HostRuntime) -> anyhow::Result<()> {
         rt.stdout().write_all(said)?;
         rt.stdout().write_all(case.name)?;
         rt.stdout().write_all(b"\n")?;
-        rest = case.rest;
-        compared = k + 1;
+        compared = compared.saturating_add(1);
     }
-    if !rest.is_empty() {
+    if !cases.0.is_empty() {
         println!(rt; "what follows is no case")?;
     }
     println!(rt; "{compared} cases compared")?;
