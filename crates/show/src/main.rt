@@ -7,10 +7,7 @@ use std::io::Write;
 
 // The bytes of a sheet, or an error that names it.
 fn sheet(rt: &HostRuntime, name: &str) -> anyhow::Result<Vec<u8>> {
-    match fs::read(rt, name) {
-        Ok(bytes) => Ok(bytes),
-        Err(e) => Err(anyhow!(format!(in rt.alloc(); "{name}: {e}")?)),
-    }
+    fs::read(rt, name).map_err(|e| anyhow!("{name}: {e}"))
 }
 
 fn run(rt: &HostRuntime) -> anyhow::Result<()> {
