@@ -3,11 +3,12 @@ use Rattle.std.proofs.Common.{◌≡◌, not}
 use Rattle.plans.specs.Search.{some_below}
 use Rattle.packing.specs.Steps.{Reached, at_place, pushed_at}
 use Rattle.packing.specs.Tasks.{task_of, pins_of}
-use Rattle.packing.proofs.placing.place_all.Given as goal
+use Rattle.packing.proofs.job.Job.place_all.Given as goal
 
 abbrev pub invariant-loop-place : goal.invariant-loop-place
 invariant-loop-place g l =
-    let plan = g.R.Representation.means l.representation in
-    let task = task_of plan l.rotated l.sides in
-    Reached g.L.Length.kind task (pins_of l.pin) l.place l.initial.results l.results
-    × (l.fits ≡ not (some_below l.place (λ k. pushed_at g.L.Length.kind task (pins_of l.pin) (at_place plan k))))
+    let K = g.L.Length.kind in
+    let task = task_of g.R.Representation.means l.self in
+    let pins = pins_of l.pin in
+    Reached K task pins l.place l.initial.results l.results
+    × (l.fits ≡ not (some_below l.place (λ k. pushed_at K task pins (at_place task.plan k))))

@@ -1,7 +1,7 @@
 -- Past a module that has no edge to it the corner stays.
 use Rattle.std.proofs.Common.{◌≢◌, arith}
 use Rattle.std.proofs.lemmas.Bool.{ne_eqb}
-use Rattle.packing.proofs.free.moved_past.Goals as goal
+use Rattle.packing.proofs.pin.Corner.moved_past.Goals as goal
 
 pub returns-in_default : goal.returns-in_default
 returns-in_default g c =

@@ -4,8 +4,8 @@ use Rattle.plans.specs.Tables.{Floorplan, Feasible}
 use Rattle.packing.proofs.Corners.{free_moved}
 use Rattle.packing.proofs.OneModule.{module_stands, module_missing}
 use Rattle.packing.specs.Steps.{at_place}
-use Rattle.packing.proofs.free.free_corner.Given as given
-use Rattle.packing.proofs.free.free_corner.Goals as goal
+use Rattle.packing.proofs.job.Job.free_corner.Given as given
+use Rattle.packing.proofs.job.Job.free_corner.Goals as goal
 
 -- a place before the last is one of the sequence
 placed : (p : Floorplan) (k n : ℕ) → Feasible p → k < n → n ≤ p.size → k < length p.sequence
@@ -20,7 +20,7 @@ listed p k i n long feasible h within room stands =
 
 pub unreachable-requires : goal.unreachable-requires
 unreachable-requires g c =
-    let x = c.args.representation.now in
+    let x = c.args.self.now.representation.now in
     let p = g.R.Representation.means x in
     module_missing p c.loop-earlier.earlier c.module_at.result
     (placed p c.loop-earlier.earlier c.args.place (g.met.R.Representation.feasible x) c.loop-earlier-test.true c.requires.within)
@@ -29,7 +29,7 @@ unreachable-requires g c =
 -- what is known once the module is read
 index_below : (g : given.Over) (c : goal.After-code g) → c.in-Some.j < length c.args.results.now
 index_below g c =
-    let x = c.args.representation.now in
+    let x = c.args.self.now.representation.now in
     let p = g.R.Representation.means x in
     listed p c.loop-earlier.earlier c.in-Some.j c.args.place (length c.args.results.now)
     (g.met.R.Representation.feasible x) c.loop-earlier-test.true c.requires.within c.requires.room
@@ -41,7 +41,7 @@ bounds-results-j g c = index_below g c
 pub loop-earlier-preserved : goal.loop-earlier-preserved
 loop-earlier-preserved g c =
     let K = g.L.Length.kind in
-    let x = c.args.representation.now in
+    let x = c.args.self.now.representation.now in
     let p = g.R.Representation.means x in
     let results = c.args.results.now in
     let k = c.loop-earlier.earlier in
