@@ -1,11 +1,9 @@
 -- What the calls answer and leave, from what their parts do.
-use Rattle.std.proofs.Common.{◌≡◌, ℕ, ◌≤◌, Bool, true, false, cond, not, List, ◌++◌, map, length, take, drop, Some, None, Ok, Err, Option, Result, sym, refl, ap, ◌∙◌, subst, arith}
+use Rattle.std.proofs.Common.{◌≡◌, ℕ, ◌<◌, ◌≤◌, Bool, true, false, cond, not, ◌&&◌, ◌==◌, nat_lt, if◌then◌else◌, List, ◌++◌, map, length, take, drop, Some, None, Ok, Err, Option, Result, sym, refl, ap, ◌∙◌, subst, lt-ltb, arith}
 use Rattle.std.specs.List.{range_with_len}
 use Rattle.std.proofs.lemmas.List.FromFn.{length-map-range_with_len}
 use Rattle.std.proofs.lemmas.List.{drop_at}
 use Rattle.std.proofs.lemmas.Bool.{cond-true, cond-false, not-true, not-false}
-use Rattle.module_set.specs.Members.{member}
-use Rattle.module_set.specs.declared.set.ModuleSet.{ModuleSet}
 use Rattle.plans.proofs.PackRefusals.{not_refused_packable, not_refused_pinned, not_refused_rotated}
 use Rattle.plans.proofs.PackingAnswers.{answered_not_refused, pack_answers, pinned_answers, rotated_answers}
 use Rattle.plans.proofs.PackingLaws.{rotated_law}
@@ -186,3 +184,17 @@ module _ {L : Type 0} (K : Kind L) (t : Task L) (before : List (Placed L)) (feas
         (sym (outcome_allowed K (rotation_refusal K t before a) before (packed_outcome K looked no_pins before) allowed))
         ((λ x. Ok (made x)), out.1) in
         (gives, rotated_shows law (Ok chip) after gives)
+
+-- a set with one module toggled makes the task with that module rotated once more
+pub toggled_task :
+    {L : Type 0} (plan : Floorplan) (sides : List (Sides L)) (before after : ℕ → Bool) (a : ℕ) → a < 64
+    → ((k : ℕ) → after k ≡ (if nat_lt a 64 && k == a then not (before k) else before k))
+    → ◌≡◌ {A = Task L} (record { plan = plan; rotated = after; sides = sides })
+    (rotated_task (record { plan = plan; rotated = before; sides = sides }) a)
+toggled_task plan sides before after a h same x =
+    record {
+      plan = plan;
+      rotated = λ k.
+          (same k ∙ ap (λ b. if b && k == a then not (before k) else before k) (lt-ltb a 64 h)) x;
+      sides = sides;
+    }

@@ -21,8 +21,9 @@ fn chip_to<L: Length>(far: Corner<L>) -> Chip<L>
 pub(crate) fn chip_around<L: Length>(modules: &[Placed<L>]) -> Chip<L>
     ensures { result ≡ chip_around L.Length.kind modules.now }
 {
-    let far = modules
-        .iter()
-        .fold(Corner::origin(), |far, module| far.join(Corner::far_of(module)));
+    let far = modules.iter().fold(
+        Corner::origin(),
+        |far, module| far.join(Corner::far_of(module)),
+    );
     chip_to(far)
 }

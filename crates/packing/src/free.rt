@@ -1,29 +1,30 @@
 // Where a module is free to begin: after all modules that stand before it.
 ghost use Rattle.std.specs.Prelude.{◌≡◌, ◌≤◌, length};
+ghost use Rattle.plans.specs.Directions.{code_told};
 ghost use Rattle.packing.specs.Steps.{corner_past, free_corner};
 ghost use Rattle.packing.specs.Tasks.{task_of};
 
 use crate::job::Job;
 use crate::pin::Corner;
 use lengths::Length;
-use plans::Placed;
+use plans::{Direction, Placed};
 use representations::Representation;
 
 impl<L: Length> Corner<L> {
-    // The corner moved past a placed module that stands left of it, code 1, or below it, code 2.
-    fn moved_past(self, code: u8, placed: Placed<L>) -> Corner<L>
-        ensures { result ≡ corner_past L.Length.kind self code placed }
+    // The corner moved past a placed module, if that has an edge to the module that is to begin here.
+    fn moved_past(self, edge: Option<Direction>, placed: Placed<L>) -> Corner<L>
+        ensures { result ≡ corner_past L.Length.kind self (code_told edge) placed }
     {
-        match code {
-            1 => Corner {
+        match edge {
+            Some(Direction::Right) => Corner {
                 across: self.across.join(placed.right),
-                up: self.up,
+                ..self
             },
-            2 => Corner {
-                across: self.across,
+            Some(Direction::Above) => Corner {
                 up: self.up.join(placed.top),
+                ..self
             },
-            _ => self,
+            None => self,
         }
     }
 }
@@ -36,11 +37,12 @@ impl<'a, R: Representation, L: Length> Job<'a, R, L> {
         ensures { result ≡ free_corner L.Length.kind (task_of R.Representation.means self.now).plan results.now place i }
     {
         let mut free = Corner::origin();
+        // A representation tells its sequence place by place, so there is no slice to go over.
         for earlier in 0..place {
             let Some(j) = self.representation.module_at(earlier) else {
                 unreachable()
             };
-            free = free.moved_past(self.representation.code(j, i), results[j]);
+            free = free.moved_past(self.representation.direction(j, i), results[j]);
         }
         free
     }

@@ -25,7 +25,10 @@ impl<'a, R: Representation, L: Length> Job<'a, R, L> {
         requires { rotation_refusal L.Length.kind (task_of R.Representation.means self.now) results.old «module» ≡ None }
         ensures { PacksOnceMore L.Length.kind (task_of R.Representation.means self.now) results.old «module» result results.new }
     {
-        let rotated = self.rotated.toggled(module);
-        Job { rotated, ..*self }.pack_freely(results)
+        let looked = Job {
+            rotated: self.rotated.toggled(module),
+            ..*self
+        };
+        looked.pack_freely(results)
     }
 }

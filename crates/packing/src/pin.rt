@@ -21,8 +21,8 @@ impl<L: Length> Corner<L> {
         ensures { result ≡ first_corner L.Length.kind }
     {
         Corner {
-            across: L::origin(),
-            up: L::origin(),
+            across: L::ZERO,
+            up: L::ZERO,
         }
     }
 

@@ -70,6 +70,7 @@ impl<'a, R: Representation, L: Length> Job<'a, R, L> {
         ensures { PlacesAll L.Length.kind (task_of R.Representation.means self.now) (pins_of pin) results.old results.new result }
     {
         let mut fits = true;
+        // A turn writes into the list, which a chain's closure could not be told to have done.
         for place in 0..self.representation.modules() {
             fits &= self.place_module(pin, place, results);
         }

@@ -11,20 +11,11 @@ use lengths::Length;
 use plans::{PackRefusal, PinnedRefusal, Placed, RotationRefusal, Sides};
 use representations::Representation;
 
-const LONGEST_SIDE: u32 = 100_000;
-
-// Whether a length may be a side.
-fn is_side<L: Length>(side: L) -> bool
-    ensures { result ≡ possible_side L.Length.kind side }
-{
-    (1..=LONGEST_SIDE).contains(&side.extent())
-}
-
 // Whether both sides of a module are possible.
 fn are_possible<L: Length>(sides: &Sides<L>) -> bool
     ensures { result ≡ (possible_side L.Length.kind sides.now.width && possible_side L.Length.kind sides.now.height) }
 {
-    is_side(sides.width) && is_side(sides.height)
+    sides.width.is_side() && sides.height.is_side()
 }
 
 // The first module one of whose sides is not possible.
@@ -37,8 +28,7 @@ fn first_wrong<L: Length>(sides: &[Sides<L>]) -> Option<usize>
 impl<'a, R: Representation, L: Length> Job<'a, R, L> {
     // The first refusal of any packing.
     pub(crate) fn check_sides(&self, results: &[Placed<L>]) -> Result<(), PackRefusal>
-        ensures exact { result ≡ or_refusal (pack_refusal L.Length.kind (task_of R.Representation.means self.now) results.now) }
-        ensures refuses { Refuses (pack_refusal L.Length.kind (task_of R.Representation.means self.now) results.now) result }
+        ensures { Refuses (pack_refusal L.Length.kind (task_of R.Representation.means self.now) results.now) result }
     {
         let modules = self.representation.modules();
         if self.sides.len() != modules {
@@ -54,7 +44,7 @@ impl<'a, R: Representation, L: Length> Job<'a, R, L> {
     pub(crate) fn check_pin(&self, results: &[Placed<L>], pin: Pin<L>) -> Result<(), PinnedRefusal>
         ensures { Refuses (pin_refusal L.Length.kind (task_of R.Representation.means self.now) results.now pin.«module» pin.across pin.up) result }
     {
-        self.check_sides(results).map_err(PinnedRefusal::Packing)?;
+        self.check_sides(results)?;
         if self.representation.modules() <= pin.module {
             return Err(PinnedRefusal::NoModule);
         }
@@ -65,10 +55,14 @@ impl<'a, R: Representation, L: Length> Job<'a, R, L> {
     }
 
     // The first refusal of a packing with a module rotated once more.
-    pub(crate) fn check_rotation(&self, results: &[Placed<L>], module: usize) -> Result<(), RotationRefusal>
+    pub(crate) fn check_rotation(
+        &self,
+        results: &[Placed<L>],
+        module: usize,
+    ) -> Result<(), RotationRefusal>
         ensures { Refuses (rotation_refusal L.Length.kind (task_of R.Representation.means self.now) results.now «module») result }
     {
-        self.check_sides(results).map_err(RotationRefusal::Packing)?;
+        self.check_sides(results)?;
         if self.representation.modules() <= module {
             return Err(RotationRefusal::NoModule);
         }

@@ -14,9 +14,9 @@ loop-place-preserved g c =
     let k = c.loop-place.place in
     let less : k < t.plan.size = omega (arith, c.modules-place-end.ensures, c.loop-place-test.true) in (
       rw c.place_module-fits.ensures.list
-      (reached_more K t pins _ c.requires k c.args.results.now c.loop-place.results less refl c.loop-place.invariant.0),
+          (reached_more K t pins _ c.requires k c.args.results.now c.loop-place.results less refl c.loop-place.invariant.0),
       none_more k (λ l. pushed_at K t pins (at_place t.plan l)) c.loop-place.fits c.place_module-fits.result
-      c.loop-place.invariant.1 c.place_module-fits.ensures.fits,
+          c.loop-place.invariant.1 c.place_module-fits.ensures.fits,
     )
 
 pub returns : goal.returns
