@@ -28,10 +28,6 @@ pub module_inside :
     (p : Floorplan) → Feasible p → (k i : ℕ) (r : Option ℕ) → k < p.size → r ≡ module_at p k → r ≡ Some i → i < p.size
 module_inside p feasible k i r h e f = rw (module_stands p k i r e f) at (feasible.fits.modules k h)
 
--- and there is one at each place
-pub module_missing : (p : Floorplan) (k : ℕ) (r : Option ℕ) → k < length p.sequence → r ≡ module_at p k → r ≡ None → ⊥
-module_missing p k r h e f = grind (arith, nat_tests)
-
 -- a test twice denied
 not_not : (b : Bool) → b ≡ not (not b)
 not_not true = refl

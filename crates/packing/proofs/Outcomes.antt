@@ -111,10 +111,6 @@ module _ {L : Type 0} (K : Kind L) (t : Task L) (before : List (Placed L)) (feas
     pinned_outcome allowed =
         outcome_allowed K refusal before (cond (no_place K t pins) nowhere (packed_outcome K t pins before)) allowed
 
-    -- a refusal leaves the list
-    pub pinned_refused : (e : PinnedRefusal) → refusal ≡ Some e → PacksPinned K t before p (Err e) before
-    pinned_refused e h = rw h (refl, refl)
-
     pub pinned_done :
         refusal ≡ None → no_place K t pins ≡ false
         → (m : ℕ) (chip : Chip L) (after : List (Placed L)) → m ≡ t.plan.size → after ≡ packed_list K t pins before
