@@ -1,5 +1,5 @@
 -- Filling the result list along the sequence: one module more, and all.
-use Rattle.std.proofs.Common.{◌≡◌, ℕ, ◌+◌, ◌<◌, Bool, true, false, not, ◌||◌, List, length, set, sym, refl, ap, ◌∙◌, inl, inr, add-one, arith}
+use Rattle.std.proofs.Common.{◌≡◌, ℕ, ◌+◌, ◌<◌, Bool, true, false, not, ◌&&◌, ◌||◌, List, length, set, sym, refl, ap, ◌∙◌, inl, inr, add-one, arith}
 use Rattle.std.proofs.lemmas.List.{get_or-set_same, get_or-set_other, length-set, same_lists}
 use Rattle.std.proofs.lemmas.Bool.{cases_eq, cases_lt, or_left, or_right, or_from}
 use Rattle.plans.proofs.PackingAnswers.{list_shows}
@@ -13,27 +13,17 @@ use Rattle.plans.specs.declared.measures.Placed.{Placed}
 use Rattle.packing.proofs.OneModule.{module_places}
 use Rattle.packing.specs.Steps.{Ready, Reached, at_place, pushed_at}
 
--- one number more fails the test, or passes it
-pub some_failed :
-    (n : ℕ) (p : ℕ → Bool) (fits one : Bool) → fits ≡ false → one ≡ not (p n) → one ≡ false
-    → fits ≡ not (some_below (n + 1) p)
-some_failed n p fits one e f g =
-    rw (add-one n) (e ∙ sym (ap not (or_left (p n) (some_below n p) (truly (p n) (sym g ∙ f)))))
+-- none of the numbers up to one more passes, by whether none before it does and whether it does
+pub none_more :
+    (n : ℕ) (p : ℕ → Bool) (sofar one : Bool) → sofar ≡ not (some_below n p) → one ≡ not (p n)
+    → (sofar && one) ≡ not (some_below (n + 1) p)
+none_more n p sofar one before here = rw (add-one n, before, here) (neither (some_below n p) (p n))
   where
-    truly : (b : Bool) → false ≡ not b → b ≡ true
-    truly true h = refl
-    truly false h = h
-
-pub none_failed :
-    (n : ℕ) (p : ℕ → Bool) (sofar fits one : Bool) → sofar ≡ not (some_below n p) → fits ≡ sofar → one ≡ not (p n)
-    → one ≡ true → fits ≡ not (some_below (n + 1) p)
-none_failed n p sofar fits one before e f g =
-    rw (add-one n) (e ∙ before ∙ ap not (sym (passed (p n) (some_below n p) (sym g ∙ f))))
-  where
-    passed : (b c : Bool) → true ≡ not b → (b || c) ≡ c
-    passed true true h = refl
-    passed true false h = h
-    passed false c h = refl
+    neither : (b c : Bool) → (not b && not c) ≡ not (c || b)
+    neither true true = refl
+    neither true false = refl
+    neither false true = refl
+    neither false false = refl
 
 -- some number below m passes either test where some passes one or the other
 some_either : (m : ℕ) (p q : ℕ → Bool) → some_below m (λ i. p i || q i) ≡ (some_below m p || some_below m q)

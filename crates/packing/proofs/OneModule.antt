@@ -15,7 +15,8 @@ use Rattle.plans.specs.Tables.{Floorplan, Feasible, table_in, module_at}
 use Rattle.plans.specs.declared.measures.Placed.{Placed}
 use Rattle.plans.specs.declared.measures.Sides.{Sides}
 use Rattle.packing.proofs.Corners.{onto_same}
-use Rattle.packing.specs.Steps.{Ready, RecordAt, FilledTo, at_place, blank, free_corner, near_corner, corner_at_most, pushed_at, PlacesOne}
+use Rattle.packing.specs.Steps.{Ready, RecordAt, FilledTo, at_place, blank, free_corner, near_corner, pushed_at, PlacesOne}
+use Rattle.packing.specs.Corners.{corner_at_most}
 use Rattle.packing.specs.declared.pin.Corner.{Corner}
 
 -- the module that a representation tells at a place stands there
@@ -26,10 +27,6 @@ module_stands p k i r e f = grind (arith, nat_tests)
 pub module_inside :
     (p : Floorplan) → Feasible p → (k i : ℕ) (r : Option ℕ) → k < p.size → r ≡ module_at p k → r ≡ Some i → i < p.size
 module_inside p feasible k i r h e f = rw (module_stands p k i r e f) at (feasible.fits.modules k h)
-
--- and there is one at each place
-pub module_missing : (p : Floorplan) (k : ℕ) (r : Option ℕ) → k < length p.sequence → r ≡ module_at p k → r ≡ None → ⊥
-module_missing p k r h e f = grind (arith, nat_tests)
 
 -- a test twice denied
 not_not : (b : Bool) → b ≡ not (not b)
@@ -93,16 +90,6 @@ module _ {L : Type 0} (K : Kind L) (law : Lawful K) (t : Task L) (pins : Pins L)
           rw (a, b) ((sums_within K law.sum join t ready.packable pins ready.close g edge).sums i inside) in
           sum small ∙ (λ x. K.plus (a x) (b x))
 
-    -- the side along an axis, by what was read
-    side_packed :
-        (g : ℕ) (side : Sides L) (isRotated : Bool) → side ≡ get_or t.sides i side → isRotated ≡ t.rotated i
-        → side_along g isRotated side ≡ side_of K t g i
-    side_packed g side isRotated is rotates =
-        let read =
-        get_or_read t.sides i side (omega (arith, inside, ready.packable.listed)) is
-        (record { width = K.origin; height = K.origin }) in
-        λ x. side_along g (rotates x) (read x)
-
     module _ (free near : Corner L) (freed : free ≡ free_corner K t.plan results k i) (begins : near ≡ near_corner K pins i free) where
       across_packed : near.across ≡ packed_edge K t pins 1 i
       across_packed =
@@ -116,19 +103,15 @@ module _ {L : Type 0} (K : Kind L) (law : Lawful K) (t : Task L) (pins : Pins L)
 
       -- the record that is written
       pub record_packed :
-          (side lying : Sides L) (isRotated : Bool) (placed : Placed L) → side ≡ get_or t.sides i side
-          → isRotated ≡ t.rotated i
-          → lying ≡ record { width = side_along 1 isRotated side; height = side_along 2 isRotated side }
-          → RecordAt K near lying placed → placed ≡ packed_module K t pins i
-      record_packed side lying isRotated placed is rotates lies told =
-          let width = ap (λ (s : Sides L). s.width) lies ∙ side_packed 1 side isRotated is rotates in
-          let height = ap (λ (s : Sides L). s.height) lies ∙ side_packed 2 side isRotated is rotates in
+          (side : Sides L) (placed : Placed L) → side ≡ record { width = side_of K t 1 i; height = side_of K t 2 i }
+          → RecordAt K near side placed → placed ≡ packed_module K t pins i
+      record_packed side placed lies told =
           let far =
-          sum_packed 1 (omega arith) (λ (r : Placed L). r.right) (λ j. refl) near.across lying.width
-          placed.right across_packed width told.right in
+          sum_packed 1 (omega arith) (λ (r : Placed L). r.right) (λ j. refl) near.across side.width
+          placed.right across_packed (ap (λ (s : Sides L). s.width) lies) told.right in
           let high =
-          sum_packed 2 (omega arith) (λ (r : Placed L). r.top) (λ j. refl) near.up lying.height placed.top
-          up_packed height told.top in
+          sum_packed 2 (omega arith) (λ (r : Placed L). r.top) (λ j. refl) near.up side.height placed.top
+          up_packed (ap (λ (s : Sides L). s.height) lies) told.top in
           let left = told.left ∙ across_packed in
           let bottom = told.bottom ∙ up_packed in
           λ x. record { left = left x; bottom = bottom x; right = far x; top = high x }
@@ -148,12 +131,11 @@ module _ {L : Type 0} (K : Kind L) (law : Lawful K) (t : Task L) (pins : Pins L)
 
     -- the list after the record of the module that stands at the place is written
     pub module_placed :
-        (placed : Placed L) (after : List (Placed L)) (answer fits : Bool) → placed ≡ packed_module K t pins i
-        → fits ≡ not (pushed_at K t pins i) → after ≡ set results i placed → answer ≡ fits
-        → PlacesOne K t pins k results after answer
-    module_placed placed after answer fits new fit written told =
+        (placed : Placed L) (answer : Bool) → placed ≡ packed_module K t pins i → answer ≡ not (pushed_at K t pins i)
+        → PlacesOne K t pins k results (set results i placed) answer
+    module_placed placed answer new fits =
         let back = sym stands in
         record {
-          list = written ∙ (λ x. set results (back x) ((new ∙ ap (packed_module K t pins) back) x));
-          fits = told ∙ fit ∙ ap (λ j. not (pushed_at K t pins j)) back;
+          list = λ x. set results (back x) ((new ∙ ap (packed_module K t pins) back) x);
+          fits = fits ∙ ap (λ j. not (pushed_at K t pins j)) back;
         }

@@ -1,11 +1,9 @@
 -- What the calls answer and leave, from what their parts do.
-use Rattle.std.proofs.Common.{◌≡◌, ℕ, ◌≤◌, Bool, true, false, cond, not, List, ◌++◌, map, length, drop, Some, None, Ok, Err, Option, Result, sym, refl, ap, ◌∙◌, subst, arith}
+use Rattle.std.proofs.Common.{◌≡◌, ℕ, ◌<◌, ◌≤◌, Bool, true, false, cond, not, ◌&&◌, ◌==◌, nat_lt, if◌then◌else◌, List, ◌++◌, map, length, take, drop, Some, None, Ok, Err, Option, Result, sym, refl, ap, ◌∙◌, subst, lt-ltb, arith}
 use Rattle.std.specs.List.{range_with_len}
 use Rattle.std.proofs.lemmas.List.FromFn.{length-map-range_with_len}
 use Rattle.std.proofs.lemmas.List.{drop_at}
 use Rattle.std.proofs.lemmas.Bool.{cond-true, cond-false, not-true, not-false}
-use Rattle.module_set.specs.Members.{member}
-use Rattle.module_set.specs.declared.set.ModuleSet.{ModuleSet}
 use Rattle.plans.proofs.PackRefusals.{not_refused_packable, not_refused_pinned, not_refused_rotated}
 use Rattle.plans.proofs.PackingAnswers.{answered_not_refused, pack_answers, pinned_answers, rotated_answers}
 use Rattle.plans.proofs.PackingLaws.{rotated_law}
@@ -23,8 +21,9 @@ use Rattle.plans.specs.declared.pack_refusals.PinnedRefusal.TheVariants as pinne
 use Rattle.plans.specs.declared.pack_refusals.RotationRefusal.{RotationRefusal}
 use Rattle.packing.proofs.Chips.{chip_packed}
 use Rattle.packing.specs.Calls.{Gives, Packs, PacksPinned, PacksRotated, PacksFreely, PacksOnceMore, ShowsPacking, ShowsPinned}
-use Rattle.packing.specs.Steps.{Ready, chip_in}
-use Rattle.packing.specs.Tasks.{task_of, pin_of}
+use Rattle.packing.specs.Corners.{chip_around}
+use Rattle.packing.specs.Steps.{Ready}
+use Rattle.packing.specs.Tasks.{pin_of}
 use Rattle.packing.specs.declared.pin.Pin.{Pin}
 
 -- whether there is a place, by whether all modules fit
@@ -57,15 +56,15 @@ module _ {L : Type 0} (K : Kind L) where
     -- the chip around a filled list
     chip_made :
         (pins : Pins L) → t.plan.size ≤ length before → (m : ℕ) (chip : Chip L) (after : List (Placed L))
-        → m ≡ t.plan.size → after ≡ packed_list K t pins before → chip ≡ chip_in K m after → chip ≡ packed_chip K t pins
+        → m ≡ t.plan.size → after ≡ packed_list K t pins before → chip ≡ chip_around K (take m after) → chip ≡ packed_chip K t pins
     chip_made pins room m chip after size list around =
-        around ∙ (λ x. chip_in K (size x) (list x)) ∙ chip_packed K t pins before room
+        around ∙ (λ x. chip_around K (take (size x) (list x))) ∙ chip_packed K t pins before room
 
     -- a chip with its list is the outcome of a packing
     made_outcome :
         {E : Type 0} (pins : Pins L) (o : Outcome L E) → t.plan.size ≤ length before
         → (m : ℕ) (chip : Chip L) (after : List (Placed L)) → o ≡ packed_outcome K t pins before → m ≡ t.plan.size
-        → after ≡ packed_list K t pins before → chip ≡ chip_in K m after → Gives o (Ok chip) after
+        → after ≡ packed_list K t pins before → chip ≡ chip_around K (take m after) → Gives o (Ok chip) after
     made_outcome pins o room m chip after allowed size list around =
         let made = chip_made pins room m chip after size list around in
         subst (λ p. Gives p (Ok chip) after) (sym allowed) ((λ x. Ok (made x)), list)
@@ -77,7 +76,7 @@ module _ {L : Type 0} (K : Kind L) (t : Task L) (before : List (Placed L)) (feas
 
   pub pack_done :
       pack_refusal K t before ≡ None → (m : ℕ) (chip : Chip L) (after : List (Placed L)) → m ≡ t.plan.size
-      → after ≡ packed_list K t no_pins before → chip ≡ chip_in K m after → Packs K t before (Ok chip) after
+      → after ≡ packed_list K t no_pins before → chip ≡ chip_around K (take m after) → Packs K t before (Ok chip) after
   pack_done none m chip after =
       made_outcome K t before no_pins (after_pack K t before) (room none) m chip after
       (outcome_allowed K (pack_refusal K t before) before (packed_outcome K t no_pins before) none)
@@ -112,14 +111,10 @@ module _ {L : Type 0} (K : Kind L) (t : Task L) (before : List (Placed L)) (feas
     pinned_outcome allowed =
         outcome_allowed K refusal before (cond (no_place K t pins) nowhere (packed_outcome K t pins before)) allowed
 
-    -- a refusal leaves the list
-    pub pinned_refused : (e : PinnedRefusal) → refusal ≡ Some e → PacksPinned K t before p (Err e) before
-    pinned_refused e h = rw h (refl, refl)
-
     pub pinned_done :
         refusal ≡ None → no_place K t pins ≡ false
         → (m : ℕ) (chip : Chip L) (after : List (Placed L)) → m ≡ t.plan.size → after ≡ packed_list K t pins before
-        → chip ≡ chip_in K m after → PacksPinned K t before p (Ok chip) after
+        → chip ≡ chip_around K (take m after) → PacksPinned K t before p (Ok chip) after
     pinned_done allowed place m chip after =
         made_outcome K t before pins (after_pack_pinned K t before p.«module» p.across p.up)
         (room (not_refused_pinned K t before p.«module» p.across p.up allowed).0) m chip after
@@ -186,8 +181,16 @@ module _ {L : Type 0} (K : Kind L) (t : Task L) (before : List (Placed L)) (feas
         ((λ x. Ok (made x)), out.1) in
         (gives, rotated_shows law (Ok chip) after gives)
 
--- the set with one module rotated once more makes its task
-pub rotated_task_lem :
-    {L : Type 0} (plan : Floorplan) (set once : ModuleSet) (sides : List (Sides L)) (a : ℕ)
-    → ((k : ℕ) → member once k ≡ rotated_once (member set) a k) → task_of plan once sides ≡ rotated_task (task_of plan set sides) a
-rotated_task_lem plan set once sides a same x = record { plan = plan; rotated = λ k. same k x; sides = sides }
+-- a set with one module toggled makes the task with that module rotated once more
+pub toggled_task :
+    {L : Type 0} (plan : Floorplan) (sides : List (Sides L)) (before after : ℕ → Bool) (a : ℕ) → a < 64
+    → ((k : ℕ) → after k ≡ (if nat_lt a 64 && k == a then not (before k) else before k))
+    → ◌≡◌ {A = Task L} (record { plan = plan; rotated = after; sides = sides })
+    (rotated_task (record { plan = plan; rotated = before; sides = sides }) a)
+toggled_task plan sides before after a h same x =
+    record {
+      plan = plan;
+      rotated = λ k.
+          (same k ∙ ap (λ b. if b && k == a then not (before k) else before k) (lt-ltb a 64 h)) x;
+      sides = sides;
+    }

@@ -1,30 +1,19 @@
--- The first module with a wrong side, from tests of one module after another.
-use Rattle.std.proofs.Common.{◌≡◌, ℕ, ◌<◌, ◌≤◌, true, false, not, ◌&&◌, List, length, get_or, Some, None, sym, ap, arith}
-use Rattle.std.proofs.lemmas.List.{get_or_read}
+-- The first place at which a list passes a test is the first number below its length.
+use Rattle.std.proofs.Common.{◌≡◌, ℕ, ◌<◌, ◌≤◌, Bool, true, false, cond, ltb, List, length, get_or, Some, None, Option, inl, inr, sym, ◌∙◌, arith}
+use Rattle.std.specs.List.{position, position_or_len}
+use Rattle.std.proofs.lemmas.List.Sums.{fails_before_first, passes_at_first}
+use Rattle.std.proofs.lemmas.Bool.{cases_lt, cond-true, cond-false}
 use Rattle.plans.proofs.Searches.{first_is}
-use Rattle.plans.specs.Kinds.{Kind, possible_side}
-use Rattle.plans.specs.PackingCalls.{wrong_side}
 use Rattle.plans.specs.Search.{first_below}
-use Rattle.plans.specs.declared.measures.Sides.{Sides}
 
-module _ {L : Type 0} (K : Kind L) (sides : List (Sides L)) where
-  -- the test of a module by what was read
-  pub wrong_read :
-      (i : ℕ) (side : Sides L) → i < length sides → side ≡ get_or sides i side
-      → wrong_side K sides i ≡ not (possible_side K side.width && possible_side K side.height)
-  wrong_read i side h is =
-      ap (λ (s : Sides L). not (possible_side K s.width && possible_side K s.height))
-      (sym (get_or_read sides i side h is (record { width = K.origin; height = K.origin })))
-
-  -- the first that is found
-  pub wrong_found :
-      (i : ℕ) → i < length sides → wrong_side K sides i ≡ true → ((k : ℕ) → k < i → wrong_side K sides k ≡ false)
-      → Some i ≡ first_below (length sides) (wrong_side K sides)
-  wrong_found i h here before = sym (first_is (wrong_side K sides) (length sides) (Some i) (h, here, before))
-
-  -- none where the tests have come to the end
-  pub none_wrong :
-      (i : ℕ) → length sides ≤ i → ((k : ℕ) → k < i → wrong_side K sides k ≡ false)
-      → None ≡ first_below (length sides) (wrong_side K sides)
-  none_wrong i h before =
-      sym (first_is (wrong_side K sides) (length sides) None (λ k l. before k (omega arith)))
+pub position_first :
+    {X : Type 0} (p : X → Bool) (xs : List X) (d : X) → position p xs ≡ first_below (length xs) (λ k. p (get_or xs k d))
+position_first p xs d =
+    let n = position_or_len p xs in
+    let found = first_is (λ k. p (get_or xs k d)) (length xs) in
+    elim (cases_lt n (length xs)) [
+      | inl h ↦
+          grind (arith, sym (found (Some n) (h, passes_at_first p xs d h, λ k l. fails_before_first p xs k d l)))
+      | inr h ↦
+          grind (arith, sym (found None (λ k l. fails_before_first p xs k d (omega arith))))
+    ]

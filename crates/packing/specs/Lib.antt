@@ -1,4 +1,5 @@
 -- What the packer is promised by.
 pub mod Tasks
+pub mod Corners
 pub mod Steps
 pub mod Calls

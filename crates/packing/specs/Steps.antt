@@ -52,32 +52,6 @@ module _ {L : Type 0} (K : Kind L) where
     pub right : SumWithin K near.across side.width placed.right
     pub top : SumWithin K near.up side.height placed.top
 
-  -- a corner is at most another, along both axes
-  abbrev pub corner_at_most : Corner L → Corner L → Bool
-  corner_at_most a b = K.at_most a.across b.across && K.at_most a.up b.up
-
-  -- a far corner moved out to hold a placed module
-  abbrev pub corner_around : Corner L → Placed L → Corner L
-  corner_around far placed =
-      record { across = K.later far.across placed.right; up = K.later far.up placed.top }
-
-  -- the latest far edges of the first m records of a list
-  abbrev pub far_corner : List (Placed L) → ℕ → Corner L
-  far_corner results m =
-      record {
-        across = latest K (λ i. true) (λ i. (get_or results i blank).right) m;
-        up = latest K (λ i. true) (λ i. (get_or results i blank).top) m;
-      }
-
-  -- the chip that ends at a far corner
-  abbrev pub chip_to : Corner L → Chip L
-  chip_to far =
-      record { width = far.across; height = far.up; area = K.reach far.across * K.reach far.up }
-
-  -- the chip of the first m records of a list
-  abbrev pub chip_in : ℕ → List (Placed L) → Chip L
-  chip_in m results = chip_to (far_corner results m)
-
   module _ (t : Task L) (pins : Pins L) where
     -- what can be packed into a list of this length
     pub record Ready (long : ℕ) : Type 0 where

@@ -1,19 +1,15 @@
 -- What the packer is handed, in the words of the definitions.
-use Rattle.std.specs.Prelude.{◌≡◌, false, List, Some, None, Ok, Err, Option, Result}
+use Rattle.std.specs.Prelude.{◌≡◌, Some, None, Ok, Err, Option, Result}
 use Rattle.module_set.specs.Members.{member}
-use Rattle.module_set.specs.declared.set.ModuleSet.{ModuleSet}
 use Rattle.plans.specs.Packing.{Task, Pins, no_pins, one_pin}
 use Rattle.plans.specs.Tables.{Floorplan}
-use Rattle.plans.specs.declared.measures.Sides.{Sides}
+use Rattle.packing.specs.declared.job.Job.{Job}
 use Rattle.packing.specs.declared.pin.Pin.{Pin}
 
--- the task of a floorplan with a set of rotated modules and a list of sides
-abbrev pub task_of : {L : Type 0} → Floorplan → ModuleSet → List (Sides L) → Task L
-task_of plan set sides = record { plan = plan; rotated = member set; sides = sides }
-
--- the same with no module rotated, for what does not depend on that
-abbrev pub plain_task : {L : Type 0} → Floorplan → List (Sides L) → Task L
-plain_task plan sides = record { plan = plan; rotated = λ _. false; sides = sides }
+-- the task of a job
+abbrev pub task_of : {R L : Type 0} → (R → Floorplan) → Job R L → Task L
+task_of means job =
+    record { plan = means job.representation.now; rotated = member job.rotated; sides = job.sides.now }
 
 -- the fixed near edges of a pin
 abbrev pub pin_of : {L : Type 0} → Pin L → Pins L

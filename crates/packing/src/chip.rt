@@ -1,20 +1,10 @@
 // The chip around placed modules.
-ghost use Rattle.std.specs.Prelude.{◌≡◌, ◌≤◌, length};
-ghost use Rattle.packing.specs.Steps.{corner_around, chip_to, chip_in};
+ghost use Rattle.std.specs.Prelude.{◌≡◌, fold};
+ghost use Rattle.packing.specs.Corners.{far_corner, chip_to, chip_around};
 
 use crate::pin::Corner;
 use lengths::Length;
 use plans::{Chip, Placed};
-
-// The far corner of a chip, moved out to hold a placed module.
-fn moved_out<L: Length>(far: Corner<L>, placed: Placed<L>) -> Corner<L>
-    ensures { result ≡ corner_around L.Length.kind far placed }
-{
-    Corner {
-        across: far.across.join(placed.right),
-        up: far.up.join(placed.top),
-    }
-}
 
 // The chip that ends at a far corner.
 fn chip_to<L: Length>(far: Corner<L>) -> Chip<L>
@@ -27,17 +17,13 @@ fn chip_to<L: Length>(far: Corner<L>) -> Chip<L>
     }
 }
 
-// The chip of the first modules of a list.
-pub(crate) fn chip_around<L: Length>(modules: usize, results: &[Placed<L>]) -> Chip<L>
-    requires { modules ≤ length results.now }
-    ensures { result ≡ chip_in L.Length.kind modules results.now }
+// The chip around all modules of a list.
+pub(crate) fn chip_around<L: Length>(modules: &[Placed<L>]) -> Chip<L>
+    ensures { result ≡ chip_around L.Length.kind modules.now }
 {
-    let mut far = Corner {
-        across: L::origin(),
-        up: L::origin(),
-    };
-    for i in 0..modules {
-        far = moved_out(far, results[i]);
-    }
+    let far = modules.iter().fold(
+        Corner::origin(),
+        |far, module| far.join(Corner::far_of(module)),
+    );
     chip_to(far)
 }

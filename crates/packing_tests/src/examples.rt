@@ -1,9 +1,10 @@
 // Packings with their numbers, the same in every kind of length.
-use crate::kinds::{Whole, fill, sides_of};
+use crate::kinds::{Whole, blank_results, sides_of};
 use closure_graphs::ClosureGraphs;
 use lengths::Length;
 use module_set::ModuleSet;
-use packing::{Chip, Pin, PinnedRefusal, Placed, Sides, pack, pack_pinned, pack_with_rotation};
+use packing::{Chip, Job, Pin, PinnedRefusal, Placed, Sides};
+use plans::{Direction, Refusal};
 use representations::Representation;
 
 // A chip of this width, height and area.
@@ -31,118 +32,105 @@ fn two_under_one() -> ClosureGraphs {
     graphs
 }
 
-// 64 modules, each with an edge of this code to every later one.
-fn line_of(code: u8) -> ClosureGraphs {
+// 64 modules, each with an edge in this direction to every later one.
+fn line_of(direction: Direction) -> ClosureGraphs {
     let mut graphs = ClosureGraphs::new();
-    let _ = graphs.load(&line_codes(code), &line_sequence());
+    let mut codes = [0; 4096];
+    for (k, code) in codes.iter_mut().enumerate() {
+        if k / 64 < k % 64 {
+            *code = u8::from(direction);
+        }
+    }
+    let mut sequence = [0; 64];
+    for (k, module) in sequence.iter_mut().enumerate() {
+        *module = k;
+    }
+    let _ = graphs.load(&codes, &sequence);
     graphs
 }
 
-fn line_codes(code: u8) -> [u8; 4096] {
-    let mut codes = [0u8; 4096];
-    for k in 0..4096 {
-        if k / 64 < k % 64 {
-            codes[k] = code;
-        }
+// A job in which no module is rotated.
+fn unrotated<'a, L>(
+    representation: &'a ClosureGraphs,
+    sides: &'a [Sides<L>],
+) -> Job<'a, ClosureGraphs, L> {
+    Job {
+        representation,
+        rotated: ModuleSet::empty(),
+        sides,
     }
-    codes
-}
-
-fn line_sequence() -> [usize; 64] {
-    let mut sequence = [0usize; 64];
-    for k in 0..64 {
-        sequence[k] = k;
-    }
-    sequence
 }
 
 // The sides of the three modules: 4 by 2, 3 by 3, 5 by 1.
-fn three_sides<L: Whole>(sides: &mut [Sides<L>]) {
-    for (k, side) in sides.iter_mut().enumerate() {
-        *side = match k {
-            0 => sides_of(4, 2),
-            1 => sides_of(3, 3),
-            _ => sides_of(5, 1),
-        };
-    }
+fn three_sides<L: Whole>() -> [Sides<L>; 3] {
+    [sides_of(4, 2), sides_of(3, 3), sides_of(5, 1)]
+}
+
+// The longest sides for 64 modules.
+fn longest_sides<L: Whole>() -> [Sides<L>; 64] {
+    [sides_of(100_000, 100_000); 64]
 }
 
 // Three modules packed, and with the last one rotated once more.
-pub fn three<L: Whole>(sides: &mut [Sides<L>], results: &mut [Placed<L>]) -> bool {
-    three_sides(sides);
-    let plan = two_under_one();
-    let packed = is_chip(&pack(&plan, ModuleSet::empty(), sides, results), 7, 4, 28);
-    packed
-        && is_chip(
-            &pack_with_rotation(&plan, ModuleSet::empty(), sides, results, 2),
-            7,
-            8,
-            56,
-        )
+fn three<L: Whole>(results: &mut [Placed<L>]) -> bool {
+    let (plan, sides) = (two_under_one(), three_sides());
+    let job = unrotated(&plan, &sides);
+    is_chip(&job.pack(results), 7, 4, 28)
+        && is_chip(&job.pack_with_rotation(results, 2), 7, 8, 56)
 }
 
 // No modules.
-pub fn none<L: Length>(sides: &[Sides<L>], results: &mut [Placed<L>]) -> bool {
-    is_chip(
-        &pack(&ClosureGraphs::new(), ModuleSet::empty(), sides, results),
-        0,
-        0,
-        0,
-    )
+fn none<L: Whole>(results: &mut [Placed<L>]) -> bool {
+    let plan = ClosureGraphs::new();
+    is_chip(&unrotated(&plan, &[]).pack(results), 0, 0, 0)
 }
 
-// Module 1 pinned at a place across, at the bottom.
-fn pinned<L: Whole>(
-    sides: &[Sides<L>],
-    results: &mut [Placed<L>],
-    across: u32,
-) -> Result<Chip<L>, PinnedRefusal> {
-    let pin = Pin {
-        module: 1,
+// A module pinned at a place across, at the bottom.
+fn pinned<L: Whole>(module: usize, across: u32) -> Pin<L> {
+    Pin {
+        module,
         across: L::whole(across),
-        up: L::origin(),
-    };
-    pack_pinned(&two_under_one(), ModuleSet::empty(), sides, results, pin)
+        up: L::ZERO,
+    }
 }
 
 // Pinned with room, where it is anyway, and too near.
-pub fn pins<L: Whole>(sides: &mut [Sides<L>], results: &mut [Placed<L>]) -> bool {
-    three_sides(sides);
-    is_chip(&pinned(sides, results, 6), 9, 4, 36)
-        && is_chip(&pinned(sides, results, 4), 7, 4, 28)
-        && is_refused(&pinned(sides, results, 3), 45)
+fn pins<L: Whole>(results: &mut [Placed<L>]) -> bool {
+    let (plan, sides) = (two_under_one(), three_sides());
+    let job = unrotated(&plan, &sides);
+    is_chip(&job.pack_pinned(results, pinned(1, 6)), 9, 4, 36)
+        && is_chip(&job.pack_pinned(results, pinned(1, 4)), 7, 4, 28)
+        && is_refused(&job.pack_pinned(results, pinned(1, 3)), 45)
 }
 
 // A row and a column of 64 modules with the longest sides.
-pub fn longest<L: Whole>(sides: &mut [Sides<L>], results: &mut [Placed<L>]) -> bool {
-    fill(sides, 100_000, 100_000);
-    let across = pack(&line_of(1), ModuleSet::empty(), sides, results);
-    let up = pack(&line_of(2), ModuleSet::empty(), sides, results);
+fn longest<L: Whole>(results: &mut [Placed<L>]) -> bool {
+    let sides = longest_sides();
+    let (row, column) = (line_of(Direction::Right), line_of(Direction::Above));
+    let across = unrotated(&row, &sides).pack(results);
+    let up = unrotated(&column, &sides).pack(results);
     is_chip(&across, 6_400_000, 100_000, 640_000_000_000)
         && is_chip(&up, 100_000, 6_400_000, 640_000_000_000)
 }
 
 // The first of the row pinned as far out as may be, with 63 modules behind it, and one farther.
-pub fn farthest<L: Whole>(sides: &mut [Sides<L>], results: &mut [Placed<L>]) -> bool {
-    fill(sides, 100_000, 100_000);
-    let near = Pin {
-        module: 0,
-        across: L::whole(3_600_000),
-        up: L::origin(),
-    };
-    let far = Pin {
-        module: 0,
-        across: L::whole(3_600_001),
-        up: L::origin(),
-    };
-    let row = line_of(1);
+fn farthest<L: Whole>(results: &mut [Placed<L>]) -> bool {
+    let (row, sides) = (line_of(Direction::Right), longest_sides());
+    let job = unrotated(&row, &sides);
     is_chip(
-        &pack_pinned(&row, ModuleSet::empty(), sides, results, near),
+        &job.pack_pinned(results, pinned(0, 3_600_000)),
         10_000_000,
         100_000,
         1_000_000_000_000,
-    ) && is_refused(
-        &pack_pinned(&row, ModuleSet::empty(), sides, results, far),
-        44,
-    )
+    ) && is_refused(&job.pack_pinned(results, pinned(0, 3_600_001)), 44)
+}
+
+// All examples in one kind of length.
+pub fn all_hold<L: Whole>() -> bool {
+    let mut results = blank_results::<L>();
+    none(&mut results)
+        && three(&mut results)
+        && pins(&mut results)
+        && longest(&mut results)
+        && farthest(&mut results)
 }

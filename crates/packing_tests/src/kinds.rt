@@ -16,10 +16,7 @@ impl Whole for Plain {
 // With one border.
 impl Whole for Counted {
     fn whole(number: u32) -> Counted {
-        match Counted::new(number, 1) {
-            Ok(length) => length,
-            Err(_) => Counted::ZERO,
-        }
+        Counted::new(number, 1).unwrap_or(Counted::ZERO)
     }
 }
 
@@ -31,43 +28,12 @@ pub fn sides_of<L: Whole>(width: u32, height: u32) -> Sides<L> {
     }
 }
 
-// The same sides for every module of a list.
-pub fn fill<L: Whole>(sides: &mut [Sides<L>], width: u32, height: u32) {
-    for side in sides.iter_mut() {
-        *side = sides_of(width, height);
-    }
-}
-
-pub fn plain_lists() -> ([Sides<Plain>; 64], [Placed<Plain>; 64]) {
-    let zero = Plain::ZERO;
-    let none = Placed {
-        left: zero,
-        bottom: zero,
-        right: zero,
-        top: zero,
-    };
-    (
-        [Sides {
-            width: zero,
-            height: zero,
-        }; 64],
-        [none; 64],
-    )
-}
-
-pub fn counted_lists() -> ([Sides<Counted>; 64], [Placed<Counted>; 64]) {
-    let zero = Counted::ZERO;
-    let none = Placed {
-        left: zero,
-        bottom: zero,
-        right: zero,
-        top: zero,
-    };
-    (
-        [Sides {
-            width: zero,
-            height: zero,
-        }; 64],
-        [none; 64],
-    )
+// A list of results for 64 modules, all zero.
+pub fn blank_results<L: Length>() -> [Placed<L>; 64] {
+    [Placed {
+        left: L::ZERO,
+        bottom: L::ZERO,
+        right: L::ZERO,
+        top: L::ZERO,
+    }; 64]
 }

@@ -6,12 +6,11 @@ use Rattle.plans.specs.Changes.{Follows}
 use Rattle.plans.specs.Model.{State, Layout, load_step, change_step, refused, rotated_after, settled}
 use Rattle.plans.specs.Tables.{Floorplan}
 use Rattle.plans.specs.declared.change.Change.{Change}
-use Rattle.plans.specs.declared.refusals.PlanLoadRefusal.TheVariants as load
-use Rattle.plans.specs.declared.refusals.PlanChangeRefusal.TheVariants as change
+use Rattle.plans.specs.declared.refusals.PlanRefusal.TheVariants.{Refused}
 use Rattle.plans.specs.declared.refusals.LoadRefusal.{LoadRefusal}
 use Rattle.plans.specs.declared.refusals.ChangeRefusal.{ChangeRefusal}
 use Rattle.planner.specs.Calls.{Steps}
-use Rattle.planner.specs.States.{noted_layout}
+use Rattle.planner.specs.Layouts.{noted_layout}
 use Rattle.planner.specs.declared.noted.Noted.{Noted}
 
 -- an option that has no value
@@ -81,22 +80,10 @@ module _ (s : State) (o : Option Layout) (closed : o ≡ None) where
   pub load_refused :
       (r : Result Floorplan LoadRefusal) (e : LoadRefusal) (old new : Floorplan) (rotated : ℕ → Bool)
       → Follows r (Err e) old new → old ≡ s.current.plan → ((k : ℕ) → rotated k ≡ s.current.rotated k) → o ≡ s.noted
-      → Steps (load_step s o r) (record { current = record { plan = new; rotated = rotated }; noted = o }) (Err (load.Refused e))
+      → Steps (load_step s o r) (record { current = record { plan = new; rotated = rotated }; noted = o }) (Err (Refused e))
   load_refused (Ok made) e old new rotated f was same noted = absurd (done_refused e (sym f.0))
   load_refused (Err d) e old new rotated f was same noted =
       let u : d ≡ e = let h = f.0 in cc in
       subst
-      (λ (n : Option Layout). Steps (load_step s n (Err d)) (record { current = record { plan = new; rotated = rotated }; noted = o }) (Err (load.Refused e)))
-      (sym closed) (left_as_it_was (load.Refused d) (load.Refused e) new rotated (ap load.Refused u) (f.1 ∙ was) same noted)
-
-  -- a change that was refused
-  pub change_refused :
-      (c : Change) (r : Result Floorplan ChangeRefusal) (e : ChangeRefusal) (old new : Floorplan) (rotated : ℕ → Bool)
-      → Follows r (Err e) old new → old ≡ s.current.plan → ((k : ℕ) → rotated k ≡ s.current.rotated k) → o ≡ s.noted
-      → Steps (change_step s c o r) (record { current = record { plan = new; rotated = rotated }; noted = o }) (Err (change.Refused e))
-  change_refused c (Ok made) e old new rotated f was same noted = absurd (done_refused e (sym f.0))
-  change_refused c (Err d) e old new rotated f was same noted =
-      let u : d ≡ e = let h = f.0 in cc in
-      subst
-      (λ (n : Option Layout). Steps (change_step s c n (Err d)) (record { current = record { plan = new; rotated = rotated }; noted = o }) (Err (change.Refused e)))
-      (sym closed) (left_as_it_was (change.Refused d) (change.Refused e) new rotated (ap change.Refused u) (f.1 ∙ was) same noted)
+      (λ (n : Option Layout). Steps (load_step s n (Err d)) (record { current = record { plan = new; rotated = rotated }; noted = o }) (Err (Refused e)))
+      (sym closed) (left_as_it_was (Refused d) (Refused e) new rotated (ap Refused u) (f.1 ∙ was) same noted)

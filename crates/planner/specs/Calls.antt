@@ -1,10 +1,10 @@
 -- What each call of a plan promises: the state after it and its answer are the model's at the state before it.
-use Rattle.std.specs.Prelude.{◌≡◌, ℕ, Bool, false, List, Ok, Err, Result}
+use Rattle.std.specs.Prelude.{◌≡◌, ℕ, List, Ok, Err, Result}
 use Rattle.std.specs.Result.{result_map_both}
 use Rattle.packing.specs.Calls.{Packs, PacksPinned}
 use Rattle.packing.specs.declared.pin.Pin.{Pin}
 use Rattle.plans.specs.Kinds.{Kind}
-use Rattle.plans.specs.Model.{State, Step, model_load, model_change, model_keep, model_undo, rotated_after, task_at}
+use Rattle.plans.specs.Model.{State, Step, model_load, model_change, model_keep, model_undo, task_at}
 use Rattle.plans.specs.Tables.{Floorplan}
 use Rattle.plans.specs.declared.change.Change.{Change}
 use Rattle.plans.specs.declared.measures.Chip.{Chip}
@@ -14,8 +14,7 @@ use Rattle.plans.specs.declared.pack_refusals.PackRefusal.{PackRefusal}
 use Rattle.plans.specs.declared.pack_refusals.PinnedRefusal.{PinnedRefusal}
 use Rattle.plans.specs.declared.refusals.ChangeRefusal.{ChangeRefusal}
 use Rattle.plans.specs.declared.refusals.LoadRefusal.{LoadRefusal}
-use Rattle.plans.specs.declared.refusals.PlanLoadRefusal.{PlanLoadRefusal}
-use Rattle.plans.specs.declared.refusals.PlanChangeRefusal.{PlanChangeRefusal}
+use Rattle.plans.specs.declared.refusals.PlanRefusal.{PlanRefusal}
 use Rattle.plans.specs.declared.refusals.TrialRefusal.{TrialRefusal}
 use Rattle.planner.specs.States.{state_of}
 use Rattle.planner.specs.declared.decision.Decision.{Decision}
@@ -35,28 +34,18 @@ without_decision r = result_map_both (λ d. tt) (λ e. e) r
 abbrev pub without_return : Result (Unit {0}) Undecided → Result (Unit {0}) TrialRefusal
 without_return r = result_map_both (λ u. u) (λ e. e.refusal) r
 
--- the rotated modules after a load: none where it is done, else as they were
-abbrev pub Unrotates : Result (Unit {0}) LoadRefusal → (ℕ → Bool) → (ℕ → Bool) → Type 0
-Unrotates (Ok u) before after = (k : ℕ) → after k ≡ false
-Unrotates (Err e) before after = (k : ℕ) → after k ≡ before k
-
--- the rotated modules after a change: as the change says where it is done, else as they were
-abbrev pub Rotates : Change → Result (Unit {0}) ChangeRefusal → (ℕ → Bool) → (ℕ → Bool) → Type 0
-Rotates c (Ok u) before after = (k : ℕ) → after k ≡ rotated_after before c k
-Rotates c (Err e) before after = (k : ℕ) → after k ≡ before k
-
 module _ {R : Type 0} (means : R → Floorplan) where
   -- load
-  abbrev pub Loads : Plan R → Plan R → List ℕ → List ℕ → Result (Unit {0}) PlanLoadRefusal → Type 0
+  abbrev pub Loads : Plan R → Plan R → List ℕ → List ℕ → Result (Unit {0}) (PlanRefusal LoadRefusal) → Type 0
   Loads before after codes sequence answer =
       Steps (model_load (state_of means before) codes sequence) (state_of means after) answer
 
   -- change, without its decision
-  abbrev pub Opens : Plan R → Plan R → Change → Result (Unit {0}) PlanChangeRefusal → Type 0
+  abbrev pub Opens : Plan R → Plan R → Change → Result (Unit {0}) (PlanRefusal ChangeRefusal) → Type 0
   Opens before after c answer = Steps (model_change (state_of means before) c) (state_of means after) answer
 
   -- change, with a decision handed out where it is done
-  abbrev pub ChangesBy : Plan R → Plan R → Change → Result Decision PlanChangeRefusal → Type 0
+  abbrev pub ChangesBy : Plan R → Plan R → Change → Result Decision (PlanRefusal ChangeRefusal) → Type 0
   ChangesBy before after c answer =
       Steps (model_change (state_of means before) c) (state_of means after) (without_decision answer)
 

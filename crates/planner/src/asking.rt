@@ -3,6 +3,7 @@ ghost use Rattle.std.specs.Prelude.{◌≡◌, is_some};
 ghost use Rattle.plans.specs.Tables.{table_in, module_at};
 ghost use Rattle.planner.specs.States.{state_of};
 
+use crate::current::Current;
 use crate::plan::Plan;
 use representations::Representation;
 
@@ -11,28 +12,28 @@ impl<R: Representation> Plan<R> {
     pub fn modules(&self) -> usize
         ensures { result ≡ (state_of R.Representation.means self.now).current.plan.size }
     {
-        self.representation.modules()
+        self.current.representation.modules()
     }
 
     // 1 where i is left of j, 2 where i is below j, else 0, also outside the plan.
     pub fn code(&self, i: usize, j: usize) -> u8
         ensures { result ≡ table_in (state_of R.Representation.means self.now).current.plan i j }
     {
-        self.representation.code(i, j)
+        self.current.representation.code(i, j)
     }
 
     // The module at a place of the packing sequence, none outside it.
     pub fn module_at(&self, place: usize) -> Option<usize>
         ensures { result ≡ module_at (state_of R.Representation.means self.now).current.plan place }
     {
-        self.representation.module_at(place)
+        self.current.representation.module_at(place)
     }
 
     // Whether a module is rotated.
     pub fn is_rotated(&self, module: usize) -> bool
         ensures { result ≡ (state_of R.Representation.means self.now).current.rotated «module» }
     {
-        self.rotated.contains(module)
+        self.current.rotated.contains(module)
     }
 
     // Whether a trial is open.
@@ -46,11 +47,11 @@ impl<R: Representation> Plan<R> {
     pub fn into_representation(self) -> R
         ensures { R.Representation.means result ≡ (state_of R.Representation.means self).current.plan }
     {
-        let Plan {
+        let Plan { current, trial: _ } = self;
+        let Current {
             representation,
             rotated: _,
-            trial: _,
-        } = self;
+        } = current;
         representation
     }
 }

@@ -2,9 +2,9 @@
 #![tactic(auto)]
 
 mod asking;
+mod current;
 mod decision;
 mod noted;
-mod noting;
 mod packings;
 mod plan;
 mod trials;

@@ -21,7 +21,7 @@ impl<R: Representation> Plan<R> {
         ensures plan { PacksPlan R.Representation.means L.Length.kind self.now self.now sides.now results.old result results.new }
         ensures least { ShowsPacking L.Length.kind (task_at (state_of R.Representation.means self.now) sides.now) results.old result results.new }
     {
-        packing::pack(&self.representation, self.rotated, sides, results)
+        self.current.job(sides).pack(results)
     }
 
     // Packs with one module pinned at a point. Where no placement has it there, the list holds the
@@ -36,6 +36,6 @@ impl<R: Representation> Plan<R> {
         ensures plan { PacksPlanPinned R.Representation.means L.Length.kind self.now self.now sides.now results.old pin result results.new }
         ensures least { ShowsPinned L.Length.kind (task_at (state_of R.Representation.means self.now) sides.now) results.old pin result results.new }
     {
-        packing::pack_pinned(&self.representation, self.rotated, sides, results, pin)
+        self.current.job(sides).pack_pinned(results, pin)
     }
 }

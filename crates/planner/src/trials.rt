@@ -1,17 +1,16 @@
 // Loads, changes on trial, and how a trial ends.
 ghost use Rattle.std.specs.Prelude.{◌≡◌, false, is_some};
-ghost use Rattle.plans.specs.Changes.{Follows, after_load, after_change};
 ghost use Rattle.plans.specs.Model.{made_of};
-ghost use Rattle.module_set.specs.Members.{member};
-ghost use Rattle.planner.specs.Calls.{Loads, Opens, ChangesBy, Keeps, Undoes, Unrotates, Rotates};
+ghost use Rattle.planner.specs.Calls.{Loads, Opens, ChangesBy, Keeps, Undoes};
 ghost use Rattle.planner.specs.States.{state_of};
 ghost use Rattle.plans.specs.declared.change.Change.TheVariants.{Rotate, Swap, Reverse, MoveEdge};
 
+use crate::current::Current;
 use crate::decision::{Decision, Undecided};
 use crate::noted::Noted;
 use crate::plan::Plan;
 use module_set::ModuleSet;
-use plans::{Change, ChangeRefusal, LoadRefusal, PlanChangeRefusal, PlanLoadRefusal, TrialRefusal};
+use plans::{Change, PlanChangeRefusal, PlanLoadRefusal};
 use representations::Representation;
 
 impl<R: Representation> Plan<R> {
@@ -20,8 +19,10 @@ impl<R: Representation> Plan<R> {
         ensures { state_of R.Representation.means result ≡ made_of (R.Representation.means representation) }
     {
         Plan {
-            representation,
-            rotated: ModuleSet::empty(),
+            current: Current {
+                representation,
+                rotated: ModuleSet::empty(),
+            },
             trial: None,
         }
     }
@@ -41,10 +42,8 @@ impl<R: Representation> Plan<R> {
         requires { is_some self.old.trial ≡ false }
         ensures { Loads R.Representation.means self.old self.new codes.now sequence.now result }
     {
-        match put_in(&mut self.representation, &mut self.rotated, codes, sequence) {
-            Ok(()) => Ok(()),
-            Err(refusal) => Err(PlanLoadRefusal::Refused(refusal)),
-        }
+        self.current.load(codes, sequence)?;
+        Ok(())
     }
 
     // Makes a change, on trial; where it is done, its decision is handed out.
@@ -63,14 +62,10 @@ impl<R: Representation> Plan<R> {
         requires { is_some self.old.trial ≡ false }
         ensures { Opens R.Representation.means self.old self.new change result }
     {
-        let noted = Noted::new(&self.representation, self.rotated);
-        match apply(&mut self.representation, &mut self.rotated, change) {
-            Ok(()) => {
-                self.trial = Some(noted);
-                Ok(())
-            }
-            Err(refusal) => Err(PlanChangeRefusal::Refused(refusal)),
-        }
+        let noted = Noted::new(&self.current);
+        self.current.apply(change)?;
+        self.trial = Some(noted);
+        Ok(())
     }
 
     // Exchanges the two sides of a module, on trial.
@@ -106,10 +101,7 @@ impl<R: Representation> Plan<R> {
         ensures { Keeps R.Representation.means self.old self.new result }
     {
         if self.trial.is_none() {
-            return Err(Undecided {
-                refusal: TrialRefusal::NoTrial,
-                decision,
-            });
+            return Err(decision.handed_back());
         }
         self.trial = None;
         decision.spend();
@@ -120,59 +112,11 @@ impl<R: Representation> Plan<R> {
     pub fn undo(&mut self, decision: Decision) -> Result<(), Undecided>
         ensures { Undoes R.Representation.means self.old self.new result }
     {
-        match self.trial.take() {
-            Some(noted) => {
-                noted.restore(&mut self.representation);
-                self.rotated = noted.rotated;
-                decision.spend();
-                Ok(())
-            }
-            None => Err(Undecided {
-                refusal: TrialRefusal::NoTrial,
-                decision,
-            }),
-        }
-    }
-}
-
-// Loads a floorplan and leaves no module rotated; a refused load leaves both.
-fn put_in<R: Representation>(
-    representation: &mut R,
-    rotated: &mut ModuleSet,
-    codes: &[u8],
-    sequence: &[usize],
-) -> Result<(), LoadRefusal>
-    ensures plan { Follows (after_load codes.now sequence.now) result (R.Representation.means representation.old) (R.Representation.means representation.new) }
-    ensures rotated { Unrotates result (member rotated.old) (member rotated.new) }
-{
-    representation.load(codes, sequence)?;
-    *rotated = ModuleSet::empty();
-    Ok(())
-}
-
-// Makes a change of the floorplan or of the rotated modules; a refused one leaves both.
-fn apply<R: Representation>(
-    representation: &mut R,
-    rotated: &mut ModuleSet,
-    change: Change,
-) -> Result<(), ChangeRefusal>
-    ensures plan { Follows (after_change (R.Representation.means representation.old) change) result (R.Representation.means representation.old) (R.Representation.means representation.new) }
-    ensures rotated { Rotates change result (member rotated.old) (member rotated.new) }
-{
-    match change {
-        Change::Rotate(a) => {
-            if a >= representation.modules() {
-                return Err(ChangeRefusal::NoModule);
-            }
-            *rotated = if rotated.contains(a) {
-                rotated.without(a)
-            } else {
-                rotated.with(a)
-            };
-            Ok(())
-        }
-        Change::Swap(a, b) => representation.swap(a, b),
-        Change::Reverse(a, b) => representation.reverse(a, b),
-        Change::MoveEdge(a, b) => representation.move_edge(a, b),
+        let Some(noted) = self.trial.take() else {
+            return Err(decision.handed_back());
+        };
+        noted.restore(&mut self.current);
+        decision.spend();
+        Ok(())
     }
 }

@@ -1,7 +1,7 @@
 // Rounds on a plan of 64 modules, eight columns of eight.
 use lengths::Plain;
 use module_set::ModuleSet;
-use packing::{Placed, Sides};
+use packing::{Job, Placed, Sides};
 use planner::Plan;
 use plans::Change;
 use representations::Representation;
@@ -92,9 +92,14 @@ fn packings<R: Representation>(
     results: &mut [Placed<Plain>],
     rounds: usize,
 ) -> usize {
+    let job = Job {
+        representation: r,
+        rotated: ModuleSet::empty(),
+        sides,
+    };
     let mut packed = 0usize;
     for _ in 0..rounds {
-        if packing::pack(r, ModuleSet::empty(), sides, results).is_ok() {
+        if job.pack(results).is_ok() {
             packed = packed.saturating_add(1);
         }
     }
