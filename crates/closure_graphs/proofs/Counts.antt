@@ -4,7 +4,6 @@ use Rattle.std.proofs.lemmas.List.{length-take-le, get_or-take, same_lists, get_
 use Rattle.std.proofs.lemmas.Bool.{cases_eq, cases_lt, le-ltb, eq-eqb, ne_eqb}
 use Rattle.std.proofs.lemmas.Bool.Decides.{nat_tests}
 use Rattle.graphs.specs.Edges.{edge}
-use Rattle.graphs.specs.declared.graph.Graph.{Graph}
 use Rattle.module_set.specs.Members.{member, member_count}
 use Rattle.module_set.specs.declared.set.ModuleSet.{ModuleSet}
 use Rattle.plans.proofs.Orders.{ordered_by_count}
@@ -15,7 +14,7 @@ use Rattle.plans.specs.Search.{count_below}
 use Rattle.plans.specs.Sequences.{count_before, edge_to, fitting}
 use Rattle.plans.specs.Tables.{Table, FeasibleTable}
 use Rattle.closure_graphs.specs.Shown.{Shown}
-use Rattle.table_tests.specs.Tested.{graph_table}
+use Rattle.table_tests.specs.declared.build.TwoGraphs.{TwoGraphs}
 
 -- nothing passes from m on, so counting further adds nothing
 count_further : (m d : ℕ) (p : ℕ → Bool) → ((k : ℕ) → m ≤ k → p k ≡ false) → count_below (m + d) p ≡ count_below m p
@@ -88,10 +87,10 @@ module _ (m : ℕ) (c : Table) (law : FeasibleTable m c) where
 
   -- the successors of i in the two graphs, counted
   pub successors_count :
-      (g h : Graph) (i : ℕ) (s t : ModuleSet) → c ≡ graph_table g h → Shown c g h → ((j : ℕ) → member s j ≡ edge g i j)
-      → ((j : ℕ) → member t j ≡ edge h i j) → member_count s + member_count t ≡ count_below m (λ j. edge_to c i j)
+      (two : TwoGraphs) (i : ℕ) (s t : ModuleSet) → Shown c two → ((j : ℕ) → member s j ≡ edge two.right i j)
+      → ((j : ℕ) → member t j ≡ edge two.above i j) → member_count s + member_count t ≡ count_below m (λ j. edge_to c i j)
   unfolding member_count
-  successors_count g h i s t is shown in-s in-t =
+  successors_count two i s t shown in-s in-t =
       count_either 64 (member s) (member t) (λ j. edge_to c i j)
       (λ k.
       let a : member s k ≡ eqb (c i k) 1 = in-s k ∙ shown.0 i k in

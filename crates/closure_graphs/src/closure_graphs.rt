@@ -4,19 +4,18 @@ ghost use Rattle.closure_graphs.specs.Sound.{graphs_plan, loadable};
 ghost use Rattle.plans.specs.Tables.{table_in};
 ghost use Rattle.table_tests.specs.Tested.{Shows};
 
-use graphs::Graph;
+use table_tests::TwoGraphs;
 
 // The modules right of each and above each, and the first `size` places of the sequence. The floorplan of
 // these is feasible, and each graph has its edges and no other.
 #[derive(Drop)]
 pub struct ClosureGraphs {
     pub(crate) size: usize,
-    pub(crate) right: Graph,
-    pub(crate) above: Graph,
+    pub(crate) graphs: TwoGraphs,
     pub(crate) sequence: [usize; 64],
     ghost few: { size ≤ 64 },
     ghost long: { length sequence ≡ 64 },
-    ghost feasible: { loadable (graphs_plan size right above sequence) ≡ true },
-    ghost beside: { Shows (table_in (graphs_plan size right above sequence)) 1 right },
-    ghost over: { Shows (table_in (graphs_plan size right above sequence)) 2 above },
+    ghost feasible: { loadable (graphs_plan size graphs sequence) ≡ true },
+    ghost beside: { Shows (table_in (graphs_plan size graphs sequence)) 1 graphs.right },
+    ghost over: { Shows (table_in (graphs_plan size graphs sequence)) 2 graphs.above },
 }

@@ -1,22 +1,23 @@
 // The packing sequence that fits two closure graphs.
 ghost use Rattle.std.specs.Prelude.{◌≡◌, take};
 ghost use Rattle.closure_graphs.specs.Shown.{Shown};
-ghost use Rattle.table_tests.specs.Tested.{graph_table};
+ghost use Rattle.closure_graphs.specs.Sound.{table_drawn};
 ghost use Rattle.plans.specs.Sequences.{fitting};
 ghost use Rattle.plans.specs.Tables.{FeasibleTable};
 
-use graphs::Graph;
+use table_tests::TwoGraphs;
 
 // Each module at the place that leaves room after it for the modules to which it has an edge: any two modules
 // have one, so all others stand before it.
-pub(crate) fn fitting_sequence(m: usize, right: &Graph, above: &Graph) -> [usize; 64]
-    requires shown { Shown (graph_table right.now above.now) right.now above.now }
-    requires feasible { FeasibleTable m (graph_table right.now above.now) }
-    ensures { take m result ≡ fitting m (graph_table right.now above.now) }
+pub(crate) fn fitting_sequence(m: usize, graphs: &TwoGraphs) -> [usize; 64]
+    requires shown { Shown (table_drawn graphs.now) graphs.now }
+    requires feasible { FeasibleTable m (table_drawn graphs.now) }
+    ensures { take m result ≡ fitting m (table_drawn graphs.now) }
 {
     let mut sequence = [0; 64];
+    // Each module is written at a place of its own, so to iterate over the places is no plainer.
     for i in 0..m {
-        let after = right.successors(i).len() + above.successors(i).len();
+        let after = graphs.right.successors(i).len() + graphs.above.successors(i).len();
         sequence[m - 1 - after] = i;
     }
     sequence

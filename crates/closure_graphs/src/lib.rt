@@ -1,10 +1,8 @@
 // The representation that keeps two closure graphs and the packing sequence.
 #![tactic(auto)]
 
-mod changes;
 mod closure_graphs;
-mod direction;
-mod edges;
+mod edge;
 mod fitting;
 mod implementation;
 mod places;

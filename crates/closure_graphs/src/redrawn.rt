@@ -1,27 +1,36 @@
 // The two graphs after a change, or its first refusal.
-ghost use Rattle.closure_graphs.specs.Meaning.{graphs_mean, Redrawn, Refitted};
+ghost use Rattle.closure_graphs.specs.Meaning.{graphs_mean, EdgeFound, Redrawn, Refitted};
 ghost use Rattle.plans.specs.declared.change.Change.TheVariants.{Swap, Reverse, MoveEdge};
 
-use crate::changes::{move_graphs, reverse_graphs};
 use crate::closure_graphs::ClosureGraphs;
+use crate::edge::Edge;
 use plans::ChangeRefusal;
+use representations::{Representation, two_modules};
 use table_tests::TwoGraphs;
 
 impl ClosureGraphs {
+    // The reduction edge (a, b), or the first refusal of a change of it.
+    fn reduction_edge(&self, a: usize, b: usize) -> Result<Edge, ChangeRefusal>
+        ensures { EdgeFound self.now a b result }
+    {
+        two_modules(self.size, a, b)?;
+        let direction = self.direction(a, b).ok_or(ChangeRefusal::NoEdge)?;
+        let edge = Edge::new(self.graphs, direction, a, b);
+        if edge.own.two_steps(a).contains(b) {
+            return Err(ChangeRefusal::NoReductionEdge);
+        }
+        Ok(edge)
+    }
+
     // The graphs with a and b in each other's place.
     pub(crate) fn swapped(&self, a: usize, b: usize) -> Result<TwoGraphs, ChangeRefusal>
         ensures { Redrawn (graphs_mean self.now) (Swap a b) result }
     {
-        if a >= self.size || b >= self.size {
-            return Err(ChangeRefusal::NoModule);
-        }
-        if a == b {
-            return Err(ChangeRefusal::SameModule);
-        }
-        let (mut right, mut above) = (self.right, self.above);
-        right.swap(a, b);
-        above.swap(a, b);
-        Ok(TwoGraphs { right, above })
+        two_modules(self.size, a, b)?;
+        let mut graphs = self.graphs;
+        graphs.right.swap(a, b);
+        graphs.above.swap(a, b);
+        Ok(graphs)
     }
 
     // The graphs with (a, b) turned round in its graph.
@@ -29,19 +38,17 @@ impl ClosureGraphs {
         ensures drawn { Redrawn (graphs_mean self.now) (Reverse a b) result }
         ensures fitted { Refitted (graphs_mean self.now) (Reverse a b) result }
     {
-        let direction = self.reduction_edge(a, b)?;
-        let (mut right, mut above) = (self.right, self.above);
-        reverse_graphs(direction, &mut right, &mut above, a, b);
-        Ok(TwoGraphs { right, above })
+        let mut edge = self.reduction_edge(a, b)?;
+        edge.reverse();
+        Ok(edge.graphs())
     }
 
     // The graphs with (a, b) moved to the other graph.
     pub(crate) fn moved(&self, a: usize, b: usize) -> Result<TwoGraphs, ChangeRefusal>
         ensures { Redrawn (graphs_mean self.now) (MoveEdge a b) result }
     {
-        let direction = self.reduction_edge(a, b)?;
-        let (mut right, mut above) = (self.right, self.above);
-        move_graphs(direction, &mut right, &mut above, a, b);
-        Ok(TwoGraphs { right, above })
+        let mut edge = self.reduction_edge(a, b)?;
+        edge.move_over();
+        Ok(edge.graphs())
     }
 }

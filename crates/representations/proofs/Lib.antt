@@ -1,2 +1,3 @@
--- What the proofs of the representations share.
+-- What layers over a representation share, and what the tests of a change tell.
 pub mod Layers
+pub mod Refusals

@@ -1,7 +1,7 @@
 -- The modules below the counter stand at their places.
 use Rattle.closure_graphs.proofs.Counts.{Placed}
-use Rattle.table_tests.specs.Tested.{graph_table}
+use Rattle.closure_graphs.specs.Sound.{table_drawn}
 use Rattle.closure_graphs.proofs.fitting.fitting_sequence.Given as goal
 
 abbrev pub invariant-loop-i : goal.invariant-loop-i
-invariant-loop-i l = Placed l.m (graph_table l.right l.above) l.i l.sequence
+invariant-loop-i l = Placed l.m (table_drawn l.graphs) l.i l.sequence

@@ -1,11 +1,14 @@
 -- Both graphs with the two modules exchanged.
-use Rattle.closure_graphs.proofs.Calls.{swap_drawn, two_passed}
+use Rattle.plans.specs.Changes.{two_refusal}
+use Rattle.representations.proofs.Refusals.{passed}
+use Rattle.closure_graphs.proofs.Calls.{swap_drawn}
 use Rattle.closure_graphs.proofs.closure_graphs.ClosureGraphs.swapped.Goals as goal
 
 pub returns : goal.returns
 returns c =
-    let x = c.args.self.now in (
-      two_passed x.size c.args.a c.args.b c.if-a-self.false c.if-b-self.false c.if-a-b.false,
-      swap_drawn x c.args.a c.args.b c.if-a-self.false c.if-b-self.false c.if-a-b.false c.swap.new.self
-          c.swap-2.new.self c.swap.ensures c.swap-2.ensures,
+    let x = c.args.self.now in
+    let none = passed (two_refusal x.size c.args.a c.args.b) _ _ c.in_ok-two_modules.ensures in (
+      none,
+      swap_drawn x c.args.a c.args.b none (record { right = c.swap.new.self; above = c.swap-2.new.self })
+          c.swap.ensures c.swap-2.ensures,
     )
