@@ -4,7 +4,7 @@ use Rattle.listing.specs.Line.{word_line}
 use Rattle.listing.specs.PackLines.{pack_lines}
 use Rattle.plans.specs.Kinds.{Count}
 use Rattle.plans.specs.Model.{State, model_change, model_keep, model_undo}
-use Rattle.plans.specs.Numbers.{number_of_plan_change, number_of_trial}
+use Rattle.plans.specs.Numbers.{number_of_change, number_of_plan, number_of_trial}
 use Rattle.plans.specs.declared.change.Change.{Change}
 use Rattle.plans.specs.declared.change.Change.TheVariants.{Rotate, Swap, Reverse, MoveEdge}
 use Rattle.plans.specs.declared.measures.Sides.{Sides}
@@ -26,7 +26,7 @@ change_word (MoveEdge a b) = codes "MOVE"
 -- What a command prints at a state, for modules of these sides.
 abbrev pub command_lines : List (Sides Count) → State → Command → List ℕ
 command_lines sides s (commands.Change c) =
-    word_line (change_word c) (answer_number number_of_plan_change (model_change s c).answer)
+    word_line (change_word c) (answer_number (number_of_plan number_of_change) (model_change s c).answer)
 command_lines sides s commands.Keep = word_line (codes "KEEP") (answer_number number_of_trial (model_keep s).answer)
 command_lines sides s commands.Undo = word_line (codes "UNDO") (answer_number number_of_trial (model_undo s).answer)
 command_lines sides s commands.Pack = pack_lines s sides

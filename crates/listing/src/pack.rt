@@ -8,7 +8,7 @@ use crate::lines::append_answer;
 use crate::packed::append_packing;
 use lengths::{Counted, Length};
 use planner::Plan;
-use plans::{Placed, Sides};
+use plans::{Placed, Refusal, Sides};
 use representations::Representation;
 use std::alloc::AllocError;
 
@@ -20,7 +20,7 @@ pub(crate) fn append_pack<R: Representation>(
 ) -> Result<(), AllocError>
     ensures { Appends out.old.items out.new.items (pack_lines (state_of R.Representation.means plan.now) (in_counts sides.now)) result }
 {
-    let edge = Counted::origin();
+    let edge = Counted::ZERO;
     let nowhere = Placed {
         left: edge,
         bottom: edge,

@@ -5,7 +5,6 @@ ghost use Rattle.listing.specs.Line.{Appends};
 ghost use Rattle.listing.specs.ScriptLines.{lines_from};
 ghost use Rattle.planner.specs.States.{state_of};
 ghost use Rattle.plans.specs.Model.{made_of};
-ghost use Rattle.plans.specs.Numbers.{number_of_plan_change, number_of_trial};
 ghost use Rattle.std.specs.Prelude.{◌≡◌, length};
 
 use crate::fault::append_fault;
@@ -13,7 +12,7 @@ use crate::lines::append_answer;
 use crate::pack::append_pack;
 use crate::scripted::Scripted;
 use lengths::Counted;
-use plans::{Change, PlanChangeRefusal, Sides, TrialRefusal};
+use plans::{Change, Refusal, Sides};
 use representations::Representation;
 use sheets::{Command, Place, read_command};
 use std::alloc::AllocError;
@@ -30,17 +29,9 @@ fn change_word(wanted: Change) -> &'static [u8]
     }
 }
 
-fn number_of_change(answer: Result<(), PlanChangeRefusal>) -> u16
-    ensures { result ≡ answer_number number_of_plan_change answer }
-{
-    match answer {
-        Ok(()) => 0,
-        Err(refusal) => refusal.number(),
-    }
-}
-
-fn number_of_ending(answer: Result<(), TrialRefusal>) -> u16
-    ensures { result ≡ answer_number number_of_trial answer }
+// What an answer is printed as: 0, or the number of its refusal.
+fn printed<E: Refusal + Copy>(answer: Result<(), E>) -> u16
+    ensures { result ≡ answer_number E.Refusal.number_of answer }
 {
     match answer {
         Ok(()) => 0,
@@ -60,11 +51,11 @@ fn run_command<R: Representation>(
 {
     match command {
         Command::Change(wanted) => {
-            let number = number_of_change(scripted.change(wanted));
-            append_answer(out, change_word(wanted), number)
+            let answer = scripted.change(wanted);
+            append_answer(out, change_word(wanted), printed(answer))
         }
-        Command::Keep => append_answer(out, b"KEEP", number_of_ending(scripted.keep())),
-        Command::Undo => append_answer(out, b"UNDO", number_of_ending(scripted.undo())),
+        Command::Keep => append_answer(out, b"KEEP", printed(scripted.keep())),
+        Command::Undo => append_answer(out, b"UNDO", printed(scripted.undo())),
         Command::Pack => append_pack(out, &scripted.plan, sides),
     }
 }

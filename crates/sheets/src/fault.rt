@@ -3,7 +3,7 @@ ghost use Rattle.std.specs.Prelude.{◌≡◌, ◌+◌, ◌^◌, ◌<◌};
 ghost use Rattle.sheets.specs.Checks.{whole_finding, line_finding, field_finding};
 ghost use Rattle.sheets.specs.Faults.{number_of, layer_of, sheet_number};
 
-use plans::LoadRefusal;
+use plans::{LoadRefusal, Refusal};
 
 // What is wrong.
 #[derive(Clone, Copy)]
@@ -63,11 +63,10 @@ pub struct Fault<'a> {
     pub field: &'a [u8],
 }
 
-impl Wrong {
-    // The number that the listing prints.
-    pub fn number(self) -> u16
-        ensures { result ≡ number_of self }
-    {
+impl Refusal for Wrong {
+    ghost number_of = { number_of };
+
+    fn number(&self) -> u16 {
         match self {
             Wrong::ListTooShort => 60,
             Wrong::LineLength => 61,
@@ -78,7 +77,9 @@ impl Wrong {
             Wrong::Refused(refusal) => refusal.number(),
         }
     }
+}
 
+impl Wrong {
     // The layer that it belongs to.
     pub fn layer(self) -> Layer
         ensures { result ≡ layer_of self }
