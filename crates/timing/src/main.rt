@@ -13,13 +13,10 @@ use std::time::Instant;
 
 // The number of rounds: the first argument, or 100.
 fn rounds_asked(rt: &HostRuntime) -> anyhow::Result<usize> {
-    let mut asked = 100;
-    for (k, word) in env::args(rt)?.enumerate() {
-        if k == 1 {
-            asked = word.as_str().parse::<usize>()?;
-        }
+    match env::args(rt)?.nth(1) {
+        Some(word) => Ok(word.as_str().parse()?),
+        None => Ok(100),
     }
-    Ok(asked)
 }
 
 // Changes and loads, then packings, over one representation.

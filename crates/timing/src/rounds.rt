@@ -1,38 +1,39 @@
 // Rounds on a plan of 64 modules, eight columns of eight.
-use lengths::Plain;
+use lengths::{Length, Plain};
 use module_set::ModuleSet;
 use packing::{Job, Placed, Sides};
 use planner::Plan;
 use plans::Change;
 use representations::Representation;
+use std::array;
 
 // The table of eight columns of eight modules.
-pub fn grid_codes() -> [u8; 4096] {
-    let mut codes = [0u8; 4096];
-    for k in 0..4096 {
+fn grid_codes() -> [u8; 4096] {
+    array::from_fn(|k| {
         let (i, j) = (k / 64, k % 64);
         if i / 8 < j / 8 {
-            codes[k] = 1;
+            1
         } else if i / 8 == j / 8 && i < j {
-            codes[k] = 2;
+            2
+        } else {
+            0
         }
-    }
-    codes
+    })
 }
 
 // Its sequence: column after column, each from below.
-pub fn grid_sequence() -> [usize; 64] {
-    let mut sequence = [0usize; 64];
-    for k in 0..64 {
-        sequence[k] = k;
-    }
-    sequence
+fn grid_sequence() -> [usize; 64] {
+    array::from_fn(|k| k)
 }
 
-// An edge between neighbours in a column, another one each round.
-fn neighbours(round: usize) -> (usize, usize) {
+// A change of an edge between neighbours in a column, another one each round.
+fn change_in(round: usize) -> Change {
     let a = 8 * (round % 8) + round / 8 % 7;
-    (a, a + 1)
+    if round % 2 == 0 {
+        Change::Reverse(a, a + 1)
+    } else {
+        Change::MoveEdge(a, a + 1)
+    }
 }
 
 // Loads the grid, then in each round reverses or moves an edge and loads the grid again; how many changes and
@@ -40,39 +41,29 @@ fn neighbours(round: usize) -> (usize, usize) {
 pub fn change_rounds<R: Representation>(r: &mut R, rounds: usize) -> usize {
     let codes = grid_codes();
     let sequence = grid_sequence();
-    let mut accepted = 0usize;
     let _ = r.load(&codes, &sequence);
-    for round in 0..rounds {
-        let (a, b) = neighbours(round);
-        let changed = if round % 2 == 0 {
-            r.reverse(a, b)
-        } else {
-            r.move_edge(a, b)
-        };
-        if changed.is_ok() && r.load(&codes, &sequence).is_ok() {
-            accepted = accepted.saturating_add(1);
-        }
-    }
-    accepted
+    (0..rounds)
+        .filter(|&round| {
+            let changed = match change_in(round) {
+                Change::Reverse(a, b) => r.reverse(a, b),
+                Change::MoveEdge(a, b) => r.move_edge(a, b),
+                _ => Ok(()),
+            };
+            changed.is_ok() && r.load(&codes, &sequence).is_ok()
+        })
+        .count()
 }
 
 // Sides of 64 modules, none like its neighbour.
 fn some_sides() -> [Sides<Plain>; 64] {
-    let mut sides = [Sides {
-        width: Plain(1),
-        height: Plain(1),
-    }; 64];
-    for k in 0..64u32 {
-        sides[k as usize] = Sides {
-            width: Plain(10 + k * 7 % 50),
-            height: Plain(20 + k * 11 % 40),
-        };
-    }
-    sides
+    array::from_fn(|k| Sides {
+        width: Plain(10 + k as u32 * 7 % 50),
+        height: Plain(20 + k as u32 * 11 % 40),
+    })
 }
 
 fn no_records() -> [Placed<Plain>; 64] {
-    let zero = Plain(0);
+    let zero = Plain::ZERO;
     [Placed {
         left: zero,
         bottom: zero,
@@ -83,70 +74,42 @@ fn no_records() -> [Placed<Plain>; 64] {
 
 // Packs what is loaded; how often a chip was answered.
 pub fn pack_rounds<R: Representation>(r: &R, rounds: usize) -> usize {
-    packings(r, &some_sides(), &mut no_records(), rounds)
-}
-
-fn packings<R: Representation>(
-    r: &R,
-    sides: &[Sides<Plain>],
-    results: &mut [Placed<Plain>],
-    rounds: usize,
-) -> usize {
+    let sides = some_sides();
+    let mut results = no_records();
     let job = Job {
         representation: r,
         rotated: ModuleSet::empty(),
-        sides,
+        sides: &sides,
     };
-    let mut packed = 0usize;
-    for _ in 0..rounds {
-        if job.pack(results).is_ok() {
-            packed = packed.saturating_add(1);
-        }
-    }
-    packed
+    (0..rounds)
+        .filter(|_| job.pack(&mut results).is_ok())
+        .count()
 }
 
 // A change, a packing and an undo each round; how many rounds did all three.
 pub fn trial_rounds<R: Representation + Drop>(r: R, rounds: usize) -> usize {
     let mut plan = Plan::new(r);
     let _ = plan.load(&grid_codes(), &grid_sequence());
-    trials(&mut plan, &some_sides(), &mut no_records(), rounds)
+    let sides = some_sides();
+    let mut results = no_records();
+    (0..rounds)
+        .filter(|&round| is_tried(&mut plan, round, &sides, &mut results))
+        .count()
 }
 
-fn trials<R: Representation>(
-    plan: &mut Plan<R>,
-    sides: &[Sides<Plain>],
-    results: &mut [Placed<Plain>],
-    rounds: usize,
-) -> usize {
-    let mut done = 0usize;
-    for round in 0..rounds {
-        done = done.saturating_add(one_trial(plan, round, sides, results));
-    }
-    done
-}
-
-// One round: 1 where all three calls were done.
-fn one_trial<R: Representation>(
+// Whether one round's change, packing and undo are done.
+fn is_tried<R: Representation>(
     plan: &mut Plan<R>,
     round: usize,
     sides: &[Sides<Plain>],
     results: &mut [Placed<Plain>],
-) -> usize {
-    let (a, b) = neighbours(round);
-    let change = if round % 2 == 0 {
-        Change::Reverse(a, b)
-    } else {
-        Change::MoveEdge(a, b)
+) -> bool {
+    let Ok(decision) = plan.change(change_in(round)) else {
+        return false;
     };
-    match plan.change(change) {
-        Err(_) => 0,
-        Ok(decision) => {
-            let packed = plan.pack(sides, results).is_ok();
-            match plan.undo(decision) {
-                Ok(()) => usize::from(packed),
-                Err(_) => unreachable(),
-            }
-        }
+    let packed = plan.pack(sides, results).is_ok();
+    match plan.undo(decision) {
+        Ok(()) => packed,
+        Err(_) => unreachable!(),
     }
 }
