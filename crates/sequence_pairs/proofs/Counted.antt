@@ -1,28 +1,17 @@
 -- The two sequences of a feasible table by counting, and the floorplan that they make.
-use Rattle.std.proofs.Common.{◌≡◌, ℕ, ◌+◌, ◌<◌, ◌≤◌, Bool, cond, List, length, get_or, take, sym, refl, ap, ◌∙◌, ap₂, add-one, arith}
+use Rattle.std.proofs.Common.{◌≡◌, ℕ, ◌*◌, ◌<◌, ◌≤◌, Bool, List, length, get_or, take, sym, ap, ◌∙◌, ap₂, arith}
 use Rattle.std.proofs.lemmas.List.{same_lists, length-take-le, get_or-take, get_or_default}
 use Rattle.plans.proofs.Orders.{ordered_by_count}
 use Rattle.plans.proofs.PairLaw.{pair_law, other_order}
 use Rattle.plans.proofs.Sequences.{sequence_determined}
 use Rattle.plans.specs.Orders.{TotalOrder}
-use Rattle.plans.specs.Search.{count_below}
 use Rattle.plans.specs.SequencePairs.{from_pair, other_sequence}
 use Rattle.plans.specs.Sequences.{count_before, ordered_by, fitting}
 use Rattle.plans.specs.Tables.{Table, Floorplan, Feasible, FeasibleTable, table_of}
-use Rattle.sequence_pairs.specs.Counting.{WellShaped, fitting_plan, stands_before}
+use Rattle.sequence_pairs.specs.Counting.{fitting_plan, stands_before}
 use Rattle.sequence_pairs.specs.Keeping.{AtPlaces, Distinct, pair_of}
-use Rattle.sequence_pairs.specs.declared.counting.Which.{Which}
-use Rattle.sequence_pairs.specs.declared.counting.Which.TheVariants.{Packing, Other}
-
--- one more is counted
-count_next : (n : ℕ) (p : ℕ → Bool) → count_below (n + 1) p ≡ count_below n p + cond (p n) 1 0
-count_next n p = rw (add-one) refl
-
--- and so a counter that rises where it passes
-pub count_step :
-    (n : ℕ) (p : ℕ → Bool) (old new : ℕ) (b : Bool) → p n ≡ b → old ≡ count_below n p → new ≡ old + cond b 1 0
-    → new ≡ count_below (n + 1) p
-count_step n p old new b e f g = g ∙ ap₂ (λ k t. k + cond t 1 0) f (sym e) ∙ sym (count_next n p)
+use Rattle.sequence_pairs.specs.declared.table.Which.{Which}
+use Rattle.sequence_pairs.specs.declared.table.Which.TheVariants.{Packing, Other}
 
 -- both sequences of a feasible table run along total orders
 pub stands_order : (m : ℕ) (c : Table) → FeasibleTable m c → (which : Which) → TotalOrder m (stands_before which c)
@@ -66,10 +55,10 @@ refit q f =
 
 -- the sequences by counting make the floorplan of the table
 pub counted_plan_lem :
-    (m : ℕ) (codes second first : List ℕ) → WellShaped m codes → FeasibleTable m (table_of m codes)
+    (m : ℕ) (codes second first : List ℕ) → length codes ≡ m * m → FeasibleTable m (table_of m codes)
     → take m second ≡ other_sequence m (table_of m codes) → take m first ≡ fitting m (table_of m codes)
     → pair_of m second first ≡ fitting_plan m codes
-counted_plan_lem m codes second first shape law p q =
+counted_plan_lem m codes second first full law p q =
     ap₂ from_pair p q
     ∙ pair_law.determined (fitting_plan m codes)
-    (record { full = shape.1; table = law; fits = (sequence_determined m (table_of m codes) law).fits })
+    (record { full = full; table = law; fits = (sequence_determined m (table_of m codes) law).fits })

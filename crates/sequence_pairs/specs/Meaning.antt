@@ -11,7 +11,7 @@ use Rattle.sequence_pairs.specs.declared.pair.SequencePair.{SequencePair}
 
 -- the floorplan of the two sequences
 abbrev pub meant : SequencePair → Floorplan
-meant x = pair_of x.count x.other x.packing
+meant x = pair_of x.packing.count x.other.modules x.packing.modules
 
 -- the first refusal of a load, or a pair that means what is loaded
 abbrev pub PairLoaded : List ℕ → List ℕ → Result SequencePair LoadRefusal → Type 0

@@ -1,12 +1,13 @@
 -- What a sequence pair means is feasible, and its codes are told by the places that it keeps.
-use Rattle.std.specs.Prelude.{◌≡◌, ℕ, ◌<◌, ◌≤◌, Bool, cond, ◌&&◌, List, length, take, Some, nat_lt, slice_index, refl}
-use Rattle.std.proofs.Common.{arith, sym, ◌∙◌, inl, inr}
+use Rattle.std.specs.Prelude.{◌≡◌, ℕ, ◌<◌, ◌≤◌, Bool, cond, ◌&&◌, List, length, take, Some, None, nat_lt, slice_index, refl}
+use Rattle.std.proofs.Common.{true, false, arith, sym, ap, subst, ◌∙◌, inl, inr}
 use Rattle.std.proofs.lemmas.List.{length-take-le, get_or-take}
 use Rattle.std.proofs.lemmas.Bool.{cases_lt, lt-ltb, le-ltb}
 use Rattle.plans.proofs.PairLaw.{pair_law}
 use Rattle.plans.proofs.TableLists.{table_within}
 use Rattle.plans.specs.PairLaw.{Pair}
 use Rattle.plans.specs.Tables.{Feasible, table_in, module_at}
+use Rattle.sequence_pairs.specs.Keeping.{AtPlaces}
 use Rattle.sequence_pairs.specs.Kept.{kept_names, kept_place}
 use Rattle.sequence_pairs.specs.Meaning.{meant}
 use Rattle.sequence_pairs.specs.declared.pair.SequencePair.{SequencePair}
@@ -18,38 +19,49 @@ code_by_places m first second i j =
     (cond (nat_lt (slice_index first i) (slice_index first j)) (cond (nat_lt (slice_index second i) (slice_index second j)) 1 2) 0)
     0
 
+-- whether two modules stand so in two sequences, each asked within its count
+in_both :
+    (inside first second : Bool)
+    → ◌≡◌ {A = ℕ} (cond (inside && first) (cond (inside && second) 1 2) 0) (cond inside (cond first (cond second 1 2) 0) 0)
+in_both true first second = refl
+in_both false first second = refl
+
 module _ (x : SequencePair) where
-  room : x.count ≤ length x.packing
-  room = omega (arith, x.few, x.room.0)
+  abbrev m : ℕ
+  m = x.packing.count
 
-  other_room : x.count ≤ length x.other
-  other_room = omega (arith, x.few, x.room.2)
+  room : m ≤ length x.packing.modules
+  room = let few = x.packing.few in omega (arith, x.packing.room)
 
-  pub kept_pair : Pair x.count (take x.count x.other) (take x.count x.packing)
+  other_room : m ≤ length x.other.modules
+  other_room = let few = x.packing.few in omega (arith, x.other.room)
+
+  paired : AtPlaces m x.other.modules x.other.places
+  paired = subst (λ n. AtPlaces n x.other.modules x.other.places) x.same x.other.kept
+
+  pub kept_pair : Pair m (take m x.other.modules) (take m x.packing.modules)
   kept_pair =
       record {
-        few = x.few;
-        first = kept_names x.count x.other x.other_places other_room x.paired;
-        second = kept_names x.count x.packing x.packing_places room x.packed;
+        few = x.packing.few;
+        first = kept_names m x.other.modules x.other.places other_room paired;
+        second = kept_names m x.packing.modules x.packing.places room x.packing.kept;
       }
 
-  pub meant_size : (meant x).size ≡ x.count
-  meant_size = length-take-le x.count x.packing room
+  pub meant_size : (meant x).size ≡ m
+  meant_size = length-take-le m x.packing.modules room
 
   pub meant_feasible : Feasible (meant x)
-  meant_feasible =
-      pair_law.feasible x.count (take x.count x.other) (take x.count x.packing) kept_pair
+  meant_feasible = pair_law.feasible m (take m x.other.modules) (take m x.packing.modules) kept_pair
 
   inside_told :
-      (i j : ℕ) → i < x.count → j < x.count
-      → table_in (meant x) i j ≡ code_by_places x.count x.packing_places x.other_places i j
+      (i j : ℕ) → i < m → j < m → table_in (meant x) i j ≡ code_by_places m x.packing.places x.other.places i j
   inside_told i j h k =
-      let p = kept_place x.count x.packing x.packing_places room x.packed in
-      let q = kept_place x.count x.other x.other_places other_room x.paired in
-      pair_law.codes x.count (take x.count x.other) (take x.count x.packing) kept_pair i j h k
-      ∙ rw (p i h, p j k, q i h, q j k, lt-ltb i x.count h, lt-ltb j x.count k) refl
+      let p = kept_place m x.packing.modules x.packing.places room x.packing.kept in
+      let q = kept_place m x.other.modules x.other.places other_room paired in
+      pair_law.codes m (take m x.other.modules) (take m x.packing.modules) kept_pair i j h k
+      ∙ rw (p i h, p j k, q i h, q j k, lt-ltb i m h, lt-ltb j m k) refl
 
-  outside_told : (i j : ℕ) → ((i < x.count) × (j < x.count) → ⊥) → table_in (meant x) i j ≡ 0
+  outside_told : (i j : ℕ) → ((i < m) × (j < m) → ⊥) → table_in (meant x) i j ≡ 0
   outside_told i j out =
       elim (cases_lt 0 (table_in (meant x) i j)) [
         | inl more ↦
@@ -58,30 +70,33 @@ module _ (x : SequencePair) where
         | inr less ↦ omega arith
       ]
 
-  pub told :
-      (i j : ℕ) → table_in (meant x) i j ≡ code_by_places x.count x.packing_places x.other_places i j
+  pub told : (i j : ℕ) → table_in (meant x) i j ≡ code_by_places m x.packing.places x.other.places i j
   told i j =
-      elim (cases_lt i x.count) [
+      elim (cases_lt i m) [
         | inl h ↦
-            elim (cases_lt j x.count) [
+            elim (cases_lt j m) [
               | inl k ↦ inside_told i j h k
-              | inr k ↦
-                  outside_told i j (λ w. omega (arith, w.1))
-                  ∙ rw (le-ltb j x.count k, lt-ltb i x.count h) refl
+              | inr k ↦ outside_told i j (λ w. omega (arith, w.1)) ∙ rw (le-ltb j m k, lt-ltb i m h) refl
             ]
-        | inr h ↦ outside_told i j (λ w. omega (arith, w.0)) ∙ rw (le-ltb i x.count h) refl
+        | inr h ↦ outside_told i j (λ w. omega (arith, w.0)) ∙ rw (le-ltb i m h) refl
       ]
 
-  -- the code of two modules, from what comparing their places gives
+  -- the code of two modules, by whether each sequence has the first before the second
   pub told_by :
-      (i j : ℕ) → i < x.count → j < x.count → (first second : Bool)
-      → nat_lt (slice_index x.packing_places i) (slice_index x.packing_places j) ≡ first
-      → nat_lt (slice_index x.other_places i) (slice_index x.other_places j) ≡ second
+      (i j : ℕ) (first second : Bool)
+      → first ≡ (nat_lt i m && nat_lt j m && nat_lt (slice_index x.packing.places i) (slice_index x.packing.places j))
+      → second ≡ (nat_lt i x.other.count && nat_lt j x.other.count && nat_lt (slice_index x.other.places i) (slice_index x.other.places j))
       → cond first (cond second 1 2) 0 ≡ table_in (meant x) i j
-  told_by i j h k first second e f =
-      sym (told i j ∙ rw (lt-ltb i x.count h, lt-ltb j x.count k, e, f) refl)
+  told_by i j first second e f =
+      let p = nat_lt (slice_index x.packing.places i) (slice_index x.packing.places j) in
+      let q = nat_lt (slice_index x.other.places i) (slice_index x.other.places j) in
+      let same : second ≡ (nat_lt i m && nat_lt j m && q) = f ∙ ap (λ n. nat_lt i n && nat_lt j n && q) x.same in
+      rw (e, same) (in_both (nat_lt i m && nat_lt j m) p q) ∙ sym (told i j)
 
   -- the module at a place is the one that is kept there
-  pub module_told : (k : ℕ) → k < x.count → Some (slice_index x.packing k) ≡ module_at (meant x) k
-  module_told k h =
-      sym (rw (meant_size, lt-ltb k x.count h, get_or-take x.count x.packing k 0 h) refl)
+  pub module_told : (k : ℕ) → cond (nat_lt k m) (Some (slice_index x.packing.modules k)) None ≡ module_at (meant x) k
+  module_told k =
+      elim (cases_lt k m) [
+        | inl h ↦ sym (rw (meant_size, lt-ltb k m h, get_or-take m x.packing.modules k 0 h) refl)
+        | inr h ↦ sym (rw (meant_size, le-ltb k m h) refl)
+      ]

@@ -2,10 +2,11 @@
 #![tactic(auto)]
 
 mod changing;
-mod counting;
+mod directions;
 mod loading;
+mod order;
 mod pair;
-mod relation;
 mod representing;
+mod table;
 
 pub use pair::SequencePair;

@@ -1,8 +1,8 @@
 // The pair of what is loaded.
 ghost use Rattle.sequence_pairs.specs.Meaning.{PairLoaded};
 
-use crate::counting::from_table;
 use crate::pair::SequencePair;
+use crate::table::Table;
 use plans::LoadRefusal;
 use table_tests::tested_graphs;
 
@@ -10,6 +10,7 @@ use table_tests::tested_graphs;
 pub(crate) fn loaded_pair(codes: &[u8], sequence: &[usize]) -> Result<SequencePair, LoadRefusal>
     ensures { PairLoaded codes.now sequence.now result }
 {
-    let _graphs = tested_graphs(codes, sequence)?;
-    Ok(from_table(codes, sequence.len()))
+    tested_graphs(codes, sequence)?;
+    let count = sequence.len();
+    Ok(SequencePair::of_table(&Table { count, codes }))
 }

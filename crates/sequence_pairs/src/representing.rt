@@ -4,7 +4,7 @@ ghost use Rattle.sequence_pairs.specs.ToldLemmas.{meant_feasible};
 
 use crate::loading::loaded_pair;
 use crate::pair::SequencePair;
-use plans::{Change, ChangeRefusal, LoadRefusal};
+use plans::{Change, ChangeRefusal, Direction, LoadRefusal};
 use representations::Representation;
 
 impl Representation for SequencePair {
@@ -13,24 +13,25 @@ impl Representation for SequencePair {
     ghost feasible = { λ x. meant_feasible x };
 
     fn modules(&self) -> usize {
-        self.count
+        self.packing.count
     }
 
-    fn code(&self, i: usize, j: usize) -> u8 {
-        self.relation(i, j)
-    }
-
-    fn module_at(&self, place: usize) -> Option<usize> {
-        if place < self.count {
-            Some(self.module_in(place))
-        } else {
+    fn direction(&self, i: usize, j: usize) -> Option<Direction> {
+        if !self.packing.precedes(i, j) {
             None
+        } else if self.other.precedes(i, j) {
+            Some(Direction::Right)
+        } else {
+            Some(Direction::Above)
         }
     }
 
+    fn module_at(&self, place: usize) -> Option<usize> {
+        self.packing.module_at(place)
+    }
+
     fn load(&mut self, codes: &[u8], sequence: &[usize]) -> Result<(), LoadRefusal> {
-        let loaded = loaded_pair(codes, sequence)?;
-        *self = loaded;
+        *self = loaded_pair(codes, sequence)?;
         Ok(())
     }
 

@@ -7,5 +7,4 @@ use Rattle.sequence_pairs.proofs.pair.SequencePair.write_changed.Given as goal
 
 abbrev pub invariant-loop-k : goal.invariant-loop-k
 invariant-loop-k l =
-    (x : ℕ) → x < l.k
-    → get_or l.codes x 0 ≡ changed_table (table_in (meant l.self)) l.change (x / l.self.count) (x % l.self.count)
+    (x : ℕ) → x < l.k → get_or l.codes x 0 ≡ changed_table (table_in (meant l.self)) l.change (x / l.count) (x % l.count)
