@@ -1,2 +1,3 @@
--- What rows of sets tell of edges.
+-- What rows of sets tell of edges, and what loops over them make.
 pub mod Rows
+pub mod Loops

@@ -1,10 +1,10 @@
 -- The members of the sets that single words, unions, differences and counts make.
-use Rattle.std.proofs.Common.{◌≡◌, ℕ, ◌/◌, ◌^◌, ◌<◌, ◌≤◌, Bool, true, false, not, ◌&&◌, ◌||◌, eqb, ltb, is_some, Some, None, Option, sym, refl, ap, ◌∙◌, subst, inl, inr, arith}
+use Rattle.std.proofs.Common.{◌≡◌, ℕ, ◌/◌, ◌^◌, ◌<◌, ◌≤◌, Bool, true, false, not, ◌&&◌, ◌||◌, eqb, ltb, is_some, Some, None, Option, sym, refl, ap, ◌∙◌, inl, inr, arith}
 use lib.Bits.{bit_and, bit_or, bit_xor, and_mask}
 use lib.Count.{ones, count_trailing_zeros}
-use Rattle.std.proofs.lemmas.Bool.{cases_lt, lt-ltb, le-ltb, eq-eqb, and_parts}
+use Rattle.std.proofs.lemmas.Bool.{cases_lt, lt-ltb, le-ltb}
 use Rattle.std.proofs.lemmas.Bool.Decides.{nat_tests}
-use Rattle.plans.proofs.Searches.{count_same, count_less, first_is, first_tells, some_tells, some_from, none_from}
+use Rattle.plans.proofs.Searches.{count_same, first_is, first_tells, some_tells, some_from, none_from}
 use Rattle.plans.specs.First.{IsFirst}
 use Rattle.plans.specs.Search.{first_below, some_below}
 use Rattle.module_set.proofs.Bits.{or_bit, minus_bit, power_bit, zero_bit, ones_count, trailing_tells}
@@ -112,14 +112,3 @@ bounded false b e = refl
 pub without_number : (s : ModuleSet) (k i : ℕ) → (member s k && not (ltb k 64 && eqb k i)) ≡ (member s k && not (eqb k i))
 unfolding member
 without_number s k i = bounded (ltb k 64) (bit_set s.bits k) (eqb k i)
-
--- a set whose least member is taken out has fewer left
-pub fewer_left :
-    (s t : ModuleSet) (i : ℕ) → Some i ≡ least_member s → ((k : ℕ) → member t k ≡ (member s k && not (eqb k i)))
-    → member_count t < member_count s
-unfolding least_member member_count
-fewer_left s t i e rest =
-    let f : IsFirst (member s) 64 (Some i) = subst (IsFirst (member s) 64) (sym e) (first_tells (member s) 64) in
-    let gone : member t i ≡ false = rest i ∙ rw (f.1, eq-eqb i i refl) refl in
-    count_less 64 (member t) (member s) i f.0 gone f.1
-    (λ k h m. (and_parts (member s k) (not (eqb k i)) (sym (rest k) ∙ m)).0)

@@ -1,7 +1,7 @@
 -- An item that is given was one of those to come.
 use Rattle.std.proofs.Common.{ℕ, Some, None, Option}
 use Rattle.std.specs.Iterator.{at_most, MakesProgress}
-use Rattle.module_set.proofs.Membership.{fewer_left}
+use Rattle.module_set.proofs.Taking.{fewer_left}
 use Rattle.module_set.specs.Members.{TakesLeast, member_count}
 use Rattle.module_set.specs.declared.set.ModuleSet.{ModuleSet}
 use Rattle.module_set.proofs.members.MembersIterator.next.Goals as goal
