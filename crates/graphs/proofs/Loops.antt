@@ -1,11 +1,16 @@
 -- Loops over the rows of a graph and over the members of a set.
-use Rattle.std.proofs.Common.{◌≡◌, ℕ, ◌+◌, ◌<◌, ◌≤◌, Bool, true, false, cond, not, ◌&&◌, ◌||◌, eqb, ltb, ◌≢◌, List, length, get_or, set, Some, None, sym, refl, ap, ◌∙◌, inl, inr, arith, length-set, get_or-set_other, get_or-set_same}
-use Rattle.std.proofs.lemmas.Bool.{cases_eq, cases_lt, lt-ltb, le-ltb, eq-eqb, ne_eqb}
+use Rattle.std.proofs.Common.{◌≡◌, ℕ, ◌+◌, ◌<◌, ◌≤◌, Bool, true, false, cond, not, ◌&&◌, ◌||◌, eqb, ltb, List, length, get_or, set, Some, None, sym, refl, ap, ◌∙◌, inl, inr, arith, length-set, get_or-set_other, get_or-set_same}
+use Rattle.std.proofs.lemmas.Bool.{cases_eq, lt-ltb, le-ltb, eq-eqb, ne_eqb, and_parts}
 use Rattle.std.proofs.lemmas.Bool.Decides.{nat_tests}
+use Rattle.module_set.proofs.Membership.{some_same}
 use Rattle.module_set.proofs.Taking.{least_in, none_in}
 use Rattle.module_set.specs.Members.{member, no_module, least_member, TakesLeast}
 use Rattle.module_set.specs.declared.set.ModuleSet.{ModuleSet}
-use Rattle.graphs.specs.Edges.{RowChanged}
+use Rattle.plans.proofs.Searches.{some_tells, some_from, none_from}
+use Rattle.plans.specs.Search.{some_below}
+use Rattle.graphs.proofs.Rows.{or_nothing, and_all}
+use Rattle.graphs.specs.Edges.{edge, two_steps, swapped, RowChanged}
+use Rattle.graphs.specs.declared.graph.Graph.{Graph}
 
 -- the rows of a set's modules are changed, but for the modules that are left
 pub record Changing (Makes : ModuleSet → ModuleSet → Type 0) (s left : ModuleSet) (old new : List ModuleSet) : Type 0 where
@@ -45,7 +50,7 @@ changing_more Makes s left rest old new i x before takes made =
           elim (cases_eq k i) [
             | inl same ↦ rw (same, here, gone, inside') (rw kept at made)
             | inr other ↦
-                rw (takes.1 k, ne_eqb k i other, still (member left k), get_or-set_other new i k x no_module other) (before.rows k h)
+                rw (takes.1 k, ne_eqb k i other, and_all (member left k), get_or-set_other new i k x no_module other) (before.rows k h)
           ];
     }
   where
@@ -53,17 +58,111 @@ changing_more Makes s left rest old new i x before takes made =
     was true b e = refl
     was false b e = e
 
-    still : (a : Bool) → (a && not false) ≡ a
-    still true = refl
-    still false = refl
-
 pub changing_all :
     (Makes : ModuleSet → ModuleSet → Type 0) (s left : ModuleSet) (old new : List ModuleSet)
     → Changing Makes s left old new → None ≡ least_member left
     → (k : ℕ) → k < 64 → RowChanged Makes (member s k) (get_or old k no_module) (get_or new k no_module)
 changing_all Makes s left old new before none k h =
-    rw (none_in left none k, still (member s k)) at (before.rows k h)
+    rw (none_in left none k, and_all (member s k)) at (before.rows k h)
+
+-- the rows below n have a and b in each other's place
+pub record Turned (a b n : ℕ) (old new : List ModuleSet) : Type 0 where
+  pub long : length new ≡ 64
+  pub rows :
+      (k j : ℕ) → member (get_or new k no_module) j ≡ member (get_or old k no_module) (cond (ltb k n) (swapped a b j) j)
+
+pub turned_none : (a b : ℕ) (rows : List ModuleSet) → length rows ≡ 64 → Turned a b 0 rows rows
+turned_none a b rows e = record { long = e; rows = λ k j. rw (le-ltb k 0 (omega arith)) refl }
+
+pub turned_more :
+    (a b n : ℕ) (old new : List ModuleSet) (x : ModuleSet) → n < 64 → Turned a b n old new
+    → ((j : ℕ) → member x j ≡ member (get_or new n no_module) (swapped a b j)) → Turned a b (n + 1) old (set new n x)
+turned_more a b n old new x h before turns =
+    let inside : n < length new = omega (arith, before.long) in
+    record {
+      long = length-set new n x ∙ before.long;
+      rows =
+          λ k j.
+          elim (cases_eq k n) [
+            | inl same ↦
+                rw (same, lt-ltb n (n + 1) (omega arith), get_or-set_same new n x no_module inside)
+                (turns j ∙ rw (le-ltb n n (omega arith)) at (before.rows n (swapped a b j)))
+            | inr other ↦
+                let s : ltb k (n + 1) ≡ ltb k n = grind (arith, nat_tests) in
+                rw (s, get_or-set_other new n k x no_module other) (before.rows k j)
+          ];
+    }
+
+pub turned_all :
+    (a b n : ℕ) (old new : List ModuleSet) → 64 ≤ n → Turned a b n old new → (k j : ℕ) → k < 64
+    → member (get_or new k no_module) j ≡ member (get_or old k no_module) (swapped a b j)
+turned_all a b n old new h turned k j small = rw (lt-ltb k n (omega arith)) at (turned.rows k j)
+
+-- of the numbers that are left, one is taken out
+one_taken :
+    (n j : ℕ) (left rest e : ℕ → Bool) → j < n → left j ≡ true → ((l : ℕ) → rest l ≡ (left l && not (eqb l j)))
+    → (e j || some_below n (λ l. rest l && e l)) ≡ some_below n (λ l. left l && e l)
+one_taken n j left rest e h has others =
+    elim (some_tells n (λ l. left l && e l)) [
+      | inl (found, (l, small, both)) ↦
+          elim (cases_eq l j) [
+            | inl same ↦ rw (sym same, (and_parts (left l) (e l) both).1, found) refl
+            | inr other ↦
+                let parts = and_parts (left l) (e l) both in
+                let kept : (rest l && e l) ≡ true = rw (others l, parts.0, parts.1, ne_eqb l j other) refl in
+                rw (some_from n (λ l. rest l && e l) l small kept, found) (or_true (e j))
+          ]
+      | inr (nothing, none) ↦
+          let one : e j ≡ false = rw has at (none j h) in
+          let rests : some_below n (λ l. rest l && e l) ≡ false =
+          none_from n (λ l. rest l && e l) (λ l small. fewer (left l) (not (eqb l j)) (rest l) (e l) (others l) (none l small))
+          in
+          rw (one, rests, nothing) refl
+    ]
   where
-    still : (a : Bool) → (a && not false) ≡ a
-    still true = refl
-    still false = refl
+    or_true : (b : Bool) → (b || true) ≡ true
+    or_true true = refl
+    or_true false = refl
+
+    fewer : (a b r c : Bool) → r ≡ (a && b) → (a && c) ≡ false → (r && c) ≡ false
+    fewer true b true c p q = q
+    fewer true b false c p q = refl
+    fewer false b true c p q = absurd cc
+    fewer false b false c p q = refl
+
+-- whether one of a set has an edge to k
+unfoldable pub leads : Graph → ModuleSet → ℕ → Bool
+leads g s k = some_below 64 (λ j. member s j && edge g j k)
+
+-- what is reached, with what the modules that are left lead to
+abbrev pub Reaching : Graph → ℕ → ModuleSet → ModuleSet → Type 0
+Reaching g i reached left = (k : ℕ) → (member reached k || leads g left k) ≡ two_steps g i k
+
+pub reaching_none :
+    (g : Graph) (i : ℕ) (reached left : ModuleSet) → ((k : ℕ) → member reached k ≡ false)
+    → ((j : ℕ) → member left j ≡ edge g i j) → Reaching g i reached left
+unfolding two_steps leads
+reaching_none g i reached left none from k =
+    rw (none k) (some_same 64 (λ j. member left j && edge g j k) (λ j. edge g i j && edge g j k)
+    (λ j. ap (λ b. b && edge g j k) (from j)))
+
+pub reaching_more :
+    (g : Graph) (i j : ℕ) (reached more left rest : ModuleSet) → Reaching g i reached left → TakesLeast left (Some j) rest
+    → ((k : ℕ) → member more k ≡ (member reached k || edge g j k)) → Reaching g i more rest
+unfolding leads
+reaching_more g i j reached more left rest before takes gains k =
+    let (small, has) = least_in left j takes.0 in
+    ap (λ b. b || leads g rest k) (gains k) ∙ or_assoc (member reached k) (edge g j k) (leads g rest k)
+    ∙ ap (λ b. member reached k || b) (one_taken 64 j (member left) (member rest) (λ l. edge g l k) small has takes.1) ∙ before k
+  where
+    or_assoc : (a b c : Bool) → ((a || b) || c) ≡ (a || (b || c))
+    or_assoc true b c = refl
+    or_assoc false b c = refl
+
+pub reaching_all :
+    (g : Graph) (i : ℕ) (reached left : ModuleSet) → Reaching g i reached left → None ≡ least_member left
+    → (k : ℕ) → member reached k ≡ two_steps g i k
+unfolding leads
+reaching_all g i reached left before none k =
+    let over = none_from 64 (λ j. member left j && edge g j k) (λ j h. rw (none_in left none j) refl) in
+    sym (or_nothing (member reached k)) ∙ ap (λ b. member reached k || b) (sym over) ∙ before k

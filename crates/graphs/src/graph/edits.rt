@@ -36,7 +36,8 @@ impl Graph {
         ensures { (i : ℕ) → i < 64 → RowChanged (F.post change) (member of i) (row_of self.old i) (row_of self.new i) }
     {
         for i in of {
-            self.rows[i] = change(self.rows[i]);
+            let row = &mut self.rows[i];
+            *row = change(*row);
         }
     }
 

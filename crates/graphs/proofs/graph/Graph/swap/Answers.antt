@@ -1,20 +1,14 @@
-use Rattle.std.proofs.Common.{rules, ◌≡◌, ℕ, ◌<◌, not, ◌&&◌, ◌||◌, if◌then◌else◌, ◌==◌, nat_lt, ◌+◌, ◌-◌, ◌*◌, ◌≤◌, length, ◌/◌, ◌%◌, Bool, true, false, nat_eq, List, [], ◌∷◌, ◌++◌, slice_index_or, slice_set, bit_and, bit_or, Fits, w8, w32, w64, Bor, MutBor}
-use Rattle.graphs.specs.Edges.{edge, swapped, RowChanged}
-use Rattle.module_set.specs.Members.{member}
+-- The two rows are exchanged, and then the two members of each row.
+use Rattle.std.proofs.Common.{arith}
+use Rattle.std.proofs.lemmas.List.Edits.{swapped_from_swap}
+use Rattle.module_set.specs.Members.{no_module}
+use Rattle.graphs.proofs.Loops.{turned_all}
+use Rattle.graphs.proofs.Rows.{rows_swapped}
 use Rattle.graphs.proofs.graph.Graph.swap.Goals as goal
 
--- src/graph/edits.rt:49:13
-pub loop-row-init : goal.loop-row-init
-loop-row-init c = ?
-
--- src/graph/edits.rt:49:24
-pub invariant_of-self : goal.invariant_of-self
-invariant_of-self c = ?
-
--- src/graph/edits.rt:49:13
-pub loop-row-preserved : goal.loop-row-preserved
-loop-row-preserved c = ?
-
--- src/graph/edits.rt:44:5
 pub returns-after-loop-row : goal.returns-after-loop-row
-returns-after-loop-row c = ?
+returns-after-loop-row c =
+    let full = c.args.self.now.full in
+    rows_swapped c.args.self.now _ c.swap.new.self c.args.a c.args.b c.if-a-lt64.true c.if-b-lt64.true
+    (swapped_from_swap c.args.self.now.rows c.swap.new.self c.args.a c.args.b no_module (omega arith) (omega arith) c.swap.ensures.after)
+    (turned_all c.args.a c.args.b c.loop-row.row-index c.swap.new.self c.loop-row.row-items c.loop-row-test.false c.loop-row.invariant)

@@ -1,7 +1,6 @@
-use Rattle.std.proofs.Common.{◌≡◌, ℕ, ◌<◌, not, ◌&&◌, ◌||◌, if◌then◌else◌, ◌==◌, nat_lt, ◌+◌, ◌-◌, ◌*◌, ◌≤◌, length}
-use Rattle.graphs.specs.Edges.{edge, swapped, RowChanged}
-use Rattle.module_set.specs.Members.{member}
+-- The rows gone through have a and b in each other's place.
+use Rattle.graphs.proofs.Loops.{Turned}
 use Rattle.graphs.proofs.graph.Graph.swap.Given as goal
 
 abbrev pub invariant-loop-row : goal.invariant-loop-row
-invariant-loop-row l = ?
+invariant-loop-row l = Turned l.a l.b l.row-index l.initial.row-items l.row-items
