@@ -1,7 +1,7 @@
 -- Each of the set's members has its row changed.
 use Rattle.std.proofs.Common.{arith}
 use Rattle.module_set.proofs.Taking.{least_in}
-use Rattle.graphs.proofs.Loops.{changing_more, changing_all}
+use Rattle.graphs.proofs.Changing.{changing_more, changing_all}
 use Rattle.graphs.proofs.graph.Graph.change_rows.Goals as goal
 
 pub offset_bounds-self-i : goal.offset_bounds-self-i

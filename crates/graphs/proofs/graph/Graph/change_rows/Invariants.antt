@@ -1,5 +1,5 @@
 -- The rows of the set's modules are changed but for those that are still to come.
-use Rattle.graphs.proofs.Loops.{Changing}
+use Rattle.graphs.proofs.Changing.{Changing}
 use Rattle.graphs.proofs.graph.Graph.change_rows.Given as goal
 
 abbrev pub invariant-loop-i : goal.invariant-loop-i

@@ -2,7 +2,7 @@
 use Rattle.std.proofs.Common.{arith}
 use Rattle.std.proofs.lemmas.List.Edits.{swapped_from_swap}
 use Rattle.module_set.specs.Members.{no_module}
-use Rattle.graphs.proofs.Loops.{turned_all}
+use Rattle.graphs.proofs.Changing.{turned_all}
 use Rattle.graphs.proofs.Rows.{rows_swapped}
 use Rattle.graphs.proofs.graph.Graph.swap.Goals as goal
 

@@ -1,5 +1,5 @@
 -- The rows gone through have a and b in each other's place.
-use Rattle.graphs.proofs.Loops.{Turned}
+use Rattle.graphs.proofs.Changing.{Turned}
 use Rattle.graphs.proofs.graph.Graph.swap.Given as goal
 
 abbrev pub invariant-loop-row : goal.invariant-loop-row

@@ -1,7 +1,7 @@
 -- Each successor adds what it leads to.
 use Rattle.std.proofs.Common.{◌||◌, ap, ◌∙◌}
 use Rattle.module_set.specs.Members.{member}
-use Rattle.graphs.proofs.Loops.{reaching_none, reaching_more, reaching_all}
+use Rattle.graphs.proofs.Reaching.{reaching_none, reaching_more, reaching_all}
 use Rattle.graphs.proofs.graph.Graph.two_steps.Goals as goal
 
 pub loop-j-init : goal.loop-j-init
