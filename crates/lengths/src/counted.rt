@@ -5,7 +5,7 @@ mod making;
 mod measuring;
 
 // A length with its number of module borders, never more than the length.
-#[derive(Clone, Copy)]
+#[derive(Clone, Copy, PartialEq, Eq, PartialOrd, Ord, Debug)]
 pub struct Counted {
     length: u32,
     borders: u32,

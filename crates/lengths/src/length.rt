@@ -1,19 +1,19 @@
 // The trait of all kinds of length.
 ghost use Rattle.std.specs.Prelude.{◌≡◌};
-ghost use Rattle.plans.specs.Kinds.{Kind, Lawful};
+ghost use Rattle.plans.specs.Kinds.{Kind, Lawful, possible_side};
 ghost use Rattle.lengths.specs.Sums.{SumWithin};
+
+const LONGEST_SIDE: u32 = 100_000;
 
 // What sides, edges and chips are measured in: a zero, sums, the later of two, an order and extents.
 // The laws are those of all kinds of length, for sums whose extent stays within the limit.
 pub trait Length: Copy {
     ghost kind: { Kind Self };
 
+    ghost ZERO: { Self };
+
     // The length of nothing.
     const ZERO: Self;
-
-    // The same, under a contract, which a constant can't have. Plain and counted lengths answer theirs.
-    fn origin() -> Self
-        ensures { result ≡ kind.origin };
 
     // The sum, where the extents together stay within the limit; each kind says what is beyond.
     fn plus(self, other: Self) -> Self
@@ -21,7 +21,10 @@ pub trait Length: Copy {
 
     // The later of two lengths.
     fn join(self, other: Self) -> Self
-        ensures { result ≡ kind.later self other };
+        ensures { result ≡ kind.later self other }
+    {
+        if self.at_most(other) { other } else { self }
+    }
 
     // Whether this is at most the other.
     fn at_most(self, other: Self) -> bool
@@ -30,6 +33,15 @@ pub trait Length: Copy {
     // The extent, a whole number.
     fn extent(self) -> u32
         ensures { result ≡ kind.reach self };
+
+    // Whether a module may have this side.
+    fn is_side(self) -> bool
+        ensures { result ≡ possible_side kind self }
+    {
+        (1..=LONGEST_SIDE).contains(&self.extent())
+    }
+
+    ghost zero: { ZERO ≡ kind.origin };
 
     ghost lawful: { Lawful kind };
 }

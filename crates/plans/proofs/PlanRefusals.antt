@@ -8,8 +8,8 @@ use Rattle.plans.specs.First.{RowBefore}
 use Rattle.plans.specs.FirstRefusals.{FirstRefusal, Earlier}
 use Rattle.plans.specs.LoadLaw.{LoadApplies, given}
 use Rattle.plans.specs.Model.{State, Layout, load_step, change_step, keep_step, undo_step, model_load, model_change}
-use Rattle.plans.specs.Numbers.{number_of_load, number_of_change, number_of_trial, told_by_load, told_by_change, told_by_plan_load, told_by_plan_change, told_by_trial}
-use Rattle.plans.specs.PlanRefusals.{PlanRefusals, refusal_in, rank_of_plan_load, rank_of_plan_change, PlanLoadApplies, PlanChangeApplies, TrialApplies}
+use Rattle.plans.specs.Numbers.{number_of_load, number_of_change, number_of_trial, told_by_load, told_by_change, told_by_plan, told_by_trial}
+use Rattle.plans.specs.PlanRefusals.{PlanRefusals, refusal_in, rank_of_plan, PlanApplies, PlanLoadApplies, PlanChangeApplies, TrialApplies}
 use Rattle.plans.specs.RefusalLaws.{ChangeApplies}
 use Rattle.plans.specs.Runs.{Call, load, change, keep, undo, ask, step, accepted}
 use Rattle.plans.specs.Tables.{Floorplan}
@@ -17,48 +17,15 @@ use Rattle.plans.specs.Tests.{load_refusal}
 use Rattle.plans.specs.declared.change.Change.{Change}
 use Rattle.plans.specs.declared.refusals.LoadRefusal.{LoadRefusal}
 use Rattle.plans.specs.declared.refusals.ChangeRefusal.{ChangeRefusal}
-use Rattle.plans.specs.declared.refusals.PlanLoadRefusal.{PlanLoadRefusal}
-use Rattle.plans.specs.declared.refusals.PlanLoadRefusal.TheVariants as load'
-use Rattle.plans.specs.declared.refusals.PlanChangeRefusal.{PlanChangeRefusal}
-use Rattle.plans.specs.declared.refusals.PlanChangeRefusal.TheVariants as change'
+use Rattle.plans.specs.declared.refusals.PlanRefusal.{PlanRefusal}
+use Rattle.plans.specs.declared.refusals.PlanRefusal.TheVariants.{TrialOpen, Refused}
 use Rattle.plans.specs.declared.refusals.TrialRefusal.{TrialRefusal}
 use Rattle.plans.specs.declared.refusals.TrialRefusal.TheVariants.{NoTrial}
 
 -- an open trial, or else the refusal of a representation
-abbrev first_of : {D E : Type 0} → D → (E → D) → Option Layout → Option E → Option D
-first_of opened refused (Some l) r = Some opened
-first_of opened refused None r = option_map refused r
-
--- refusals E of a representation among those of a plan, D, where an open trial comes before all of them
-module _ {D E : Type 0} (opened : D) (refused : E → D) (rank : D → ℕ) (toldD : D → List ℕ) (AppliesD : D → Type 0)
-    (number : E → ℕ) (told : E → List ℕ) (Applies : E → Type 0)
-    (by-case : (P : D → Type 0) → P opened → ((e : E) → P (refused e)) → (d : D) → P d)
-    (none_before : (d : D) → Earlier rank toldD AppliesD d opened → ⊥)
-    (in_order : (f e : E) → Earlier rank toldD AppliesD (refused f) (refused e) → Earlier number told Applies f e)
-    (there : (e : E) → Applies e → AppliesD (refused e)) (back : (e : E) → AppliesD (refused e) → Applies e) where
-  -- an open trial is the first
-  open_first : AppliesD opened → FirstRefusal rank toldD AppliesD (Some opened)
-  open_first h = (h, λ f b x. none_before f b)
-
-  -- without one the first is the representation's
-  settled_first :
-      (r : Option E) → (AppliesD opened → ⊥) → FirstRefusal number told Applies r
-      → FirstRefusal rank toldD AppliesD (option_map refused r)
-  settled_first (Some e) closed first = (
-    there e first.0,
-    λ f b h.
-        by-case (λ d. Earlier rank toldD AppliesD d (refused e) → AppliesD d → ⊥) (λ c o. closed o)
-        (λ d c a. first.1 d (in_order d e c) (back d a)) f b h,
-  )
-  settled_first None closed first = λ f h. by-case (λ d. AppliesD d → ⊥) closed (λ e a. first e (back e a)) f h
-
-  -- the first of both by whether a trial is open
-  pub first_by :
-      (o : Option Layout) → (AppliesD opened → is_some o ≡ true) → (is_some o ≡ true → AppliesD opened)
-      → (r : Option E) → FirstRefusal number told Applies r
-      → FirstRefusal rank toldD AppliesD (first_of opened refused o r)
-  first_by (Some l) tells shows r first = open_first (shows refl)
-  first_by None tells shows r first = settled_first r (λ a. let z = tells a in absurd (grind arith)) first
+abbrev first_of : {E : Type 0} → Option Layout → Option E → Option (PlanRefusal E)
+first_of (Some l) r = Some TrialOpen
+first_of None r = option_map Refused r
 
 -- nothing comes before a refusal of rank 0 that tells nothing
 nothing_before : (n a b : ℕ) → (n < 0) ⊎ ((n ≡ 0) × RowBefore a b 0 0) → ⊥
@@ -75,55 +42,66 @@ trial_alone : (f : TrialRefusal) → (number_of_trial f < 30) ⊎ ((number_of_tr
 trial_alone NoTrial (inl h) = omega arith
 trial_alone NoTrial (inr h) = nothing_before 0 0 0 (inr (refl, h.1))
 
-load_case :
-    (P : PlanLoadRefusal → Type 0) → P load'.TrialOpen → ((e : LoadRefusal) → P (load'.Refused e)) → (d : PlanLoadRefusal) → P d
-load_case P o r load'.TrialOpen = o
-load_case P o r (load'.Refused e) = r e
+-- refusals of a representation among those of a plan, where an open trial comes before all of them
+module _ {E : Type 0} (number : E → ℕ) (told : E → List ℕ) (Applies : E → Type 0) (s : State) where
+  abbrev First : Option (PlanRefusal E) → Type 0
+  First = FirstRefusal (rank_of_plan number) (told_by_plan told) (PlanApplies s Applies)
 
-change_case :
-    (P : PlanChangeRefusal → Type 0) → P change'.TrialOpen → ((e : ChangeRefusal) → P (change'.Refused e)) → (d : PlanChangeRefusal) → P d
-change_case P o r change'.TrialOpen = o
-change_case P o r (change'.Refused e) = r e
+  abbrev Before : PlanRefusal E → PlanRefusal E → Type 0
+  Before = Earlier (rank_of_plan number) (told_by_plan told) (PlanApplies s Applies)
+
+  -- nothing is earlier than an open trial
+  none_before : (d : PlanRefusal E) → Before d TrialOpen → ⊥
+  none_before TrialOpen h = nothing_before 0 0 0 h
+  none_before (Refused e) h = nothing_before (number e) _ _ h
+
+  -- without a trial the first is the representation's
+  settled_before : (e : E) → FirstRefusal number told Applies (Some e) → is_some s.noted ≡ false → (d : PlanRefusal E) → Before d (Refused e) → PlanApplies s Applies d → ⊥
+  settled_before e first closed TrialOpen b a = let z : true ≡ false = sym a ∙ closed in absurd (grind arith)
+  settled_before e first closed (Refused f) b a = first.1 f b a
+
+  none_settled : FirstRefusal number told Applies None → is_some s.noted ≡ false → (d : PlanRefusal E) → PlanApplies s Applies d → ⊥
+  none_settled first closed TrialOpen a = let z : true ≡ false = sym a ∙ closed in absurd (grind arith)
+  none_settled first closed (Refused f) a = first f a
+
+  -- the first of both by whether a trial is open
+  pub first_by : (o : Option Layout) → s.noted ≡ o → (r : Option E) → FirstRefusal number told Applies r → First (first_of o r)
+  first_by (Some l) e r first = (ap is_some e, λ d b x. none_before d b)
+  first_by None e (Some r) first = (first.0, settled_before r first (ap is_some e))
+  first_by None e None first = none_settled first (ap is_some e)
 
 -- the refusal in a step, which is an open trial's or else that of the representation
 load_step_lem :
     (s : State) (p : Floorplan) (o : Option Layout) (r : Option LoadRefusal)
-    → first_of load'.TrialOpen load'.Refused o r ≡ refusal_in (load_step s o (unless r p)).answer
+    → first_of o r ≡ refusal_in (load_step s o (unless r p)).answer
 load_step_lem s p (Some l) r = refl
 load_step_lem s p None (Some e) = refl
 load_step_lem s p None None = refl
 
 change_step_lem :
     (s : State) (c : Change) (p : Floorplan) (o : Option Layout) (r : Option ChangeRefusal)
-    → first_of change'.TrialOpen change'.Refused o r ≡ refusal_in (change_step s c o (unless r p)).answer
+    → first_of o r ≡ refusal_in (change_step s c o (unless r p)).answer
 change_step_lem s c p (Some l) r = refl
 change_step_lem s c p None (Some e) = refl
 change_step_lem s c p None None = refl
 
 pub load_refusals :
     (s : State) (codes sequence : List ℕ)
-    → FirstRefusal rank_of_plan_load told_by_plan_load (PlanLoadApplies s codes sequence) (refusal_in (model_load s codes sequence).answer)
+    → FirstRefusal (rank_of_plan number_of_load) (told_by_plan told_by_load) (PlanLoadApplies s codes sequence) (refusal_in (model_load s codes sequence).answer)
 load_refusals s codes sequence =
-    subst (FirstRefusal rank_of_plan_load told_by_plan_load (PlanLoadApplies s codes sequence))
+    subst (First number_of_load told_by_load (LoadApplies codes sequence) s)
     (load_step_lem s (given codes sequence) s.noted (load_refusal codes sequence))
-    (first_by load'.TrialOpen load'.Refused rank_of_plan_load told_by_plan_load (PlanLoadApplies s codes sequence) number_of_load
-    told_by_load (LoadApplies codes sequence) load_case
-    (load_case (λ d. Earlier rank_of_plan_load told_by_plan_load (PlanLoadApplies s codes sequence) d load'.TrialOpen → ⊥)
-    (nothing_before 0 0 0) (λ e. nothing_before (number_of_load e) _ _))
-    (λ f e h. h) (λ e h. h) (λ e h. h) s.noted (λ h. h) (λ h. h) (load_refusal codes sequence) (load_first codes sequence))
+    (first_by number_of_load told_by_load (LoadApplies codes sequence) s s.noted refl (load_refusal codes sequence)
+    (load_first codes sequence))
 
 pub change_refusals :
     (s : State) (c : Change)
-    → FirstRefusal rank_of_plan_change told_by_plan_change (PlanChangeApplies s c) (refusal_in (model_change s c).answer)
+    → FirstRefusal (rank_of_plan number_of_change) (told_by_plan told_by_change) (PlanChangeApplies s c) (refusal_in (model_change s c).answer)
 change_refusals s c =
     let p = s.current.plan in
-    subst (FirstRefusal rank_of_plan_change told_by_plan_change (PlanChangeApplies s c))
+    subst (First number_of_change told_by_change (ChangeApplies p c) s)
     (change_step_lem s c (changed p c) s.noted (change_refusal p c))
-    (first_by change'.TrialOpen change'.Refused rank_of_plan_change told_by_plan_change (PlanChangeApplies s c) number_of_change
-    told_by_change (ChangeApplies p c) change_case
-    (change_case (λ d. Earlier rank_of_plan_change told_by_plan_change (PlanChangeApplies s c) d change'.TrialOpen → ⊥)
-    (nothing_before 0 0 0) (λ e. nothing_before (number_of_change e) _ _))
-    (λ f e h. h) (λ e h. h) (λ e h. h) s.noted (λ h. h) (λ h. h) (change_refusal p c) (change_first p c))
+    (first_by number_of_change told_by_change (ChangeApplies p c) s s.noted refl (change_refusal p c) (change_first p c))
 
 -- a keep and an undo are refused exactly without a trial
 trial_by :

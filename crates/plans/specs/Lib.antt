@@ -3,6 +3,7 @@ pub mod Numbers
 pub mod Search
 pub mod First
 pub mod Tables
+pub mod Directions
 pub mod Published
 pub mod Sequences
 pub mod Orders

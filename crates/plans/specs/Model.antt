@@ -6,10 +6,8 @@ use Rattle.plans.specs.Tables.{Floorplan}
 use Rattle.plans.specs.declared.change.Change.{Change}
 use Rattle.plans.specs.declared.change.Change.TheVariants.{Rotate, Swap, Reverse, MoveEdge}
 use Rattle.plans.specs.declared.measures.Sides.{Sides}
-use Rattle.plans.specs.declared.refusals.PlanLoadRefusal.{PlanLoadRefusal}
-use Rattle.plans.specs.declared.refusals.PlanLoadRefusal.TheVariants as load
-use Rattle.plans.specs.declared.refusals.PlanChangeRefusal.{PlanChangeRefusal}
-use Rattle.plans.specs.declared.refusals.PlanChangeRefusal.TheVariants as change
+use Rattle.plans.specs.declared.refusals.PlanRefusal.{PlanRefusal}
+use Rattle.plans.specs.declared.refusals.PlanRefusal.TheVariants.{TrialOpen, Refused}
 use Rattle.plans.specs.declared.refusals.LoadRefusal.{LoadRefusal}
 use Rattle.plans.specs.declared.refusals.ChangeRefusal.{ChangeRefusal}
 use Rattle.plans.specs.declared.refusals.TrialRefusal.{TrialRefusal}
@@ -59,13 +57,13 @@ abbrev pub done : {E : Type 0} → State → Step E
 done s = record { state = s; answer = Ok tt }
 
 -- a load by whether a trial is open and by what it gives
-abbrev pub load_step : State → Option Layout → Result Floorplan LoadRefusal → Step PlanLoadRefusal
-load_step s (Some before) given = refused s load.TrialOpen
-load_step s None (Err e) = refused s (load.Refused e)
+abbrev pub load_step : State → Option Layout → Result Floorplan LoadRefusal → Step (PlanRefusal LoadRefusal)
+load_step s (Some before) given = refused s TrialOpen
+load_step s None (Err e) = refused s (Refused e)
 load_step s None (Ok p) = done (made_of p)
 
 -- load: refused in a trial; else it replaces the floorplan and leaves no module rotated
-abbrev pub model_load : State → List ℕ → List ℕ → Step PlanLoadRefusal
+abbrev pub model_load : State → List ℕ → List ℕ → Step (PlanRefusal LoadRefusal)
 model_load s codes sequence = load_step s s.noted (after_load codes sequence)
 
 -- a layout after a change of its floorplan
@@ -73,13 +71,13 @@ abbrev pub layout_after : Layout → Change → Floorplan → Layout
 layout_after l c p = record { plan = p; rotated = rotated_after l.rotated c }
 
 -- a change by whether a trial is open and by what it gives
-abbrev pub change_step : State → Change → Option Layout → Result Floorplan ChangeRefusal → Step PlanChangeRefusal
-change_step s c (Some before) given = refused s change.TrialOpen
-change_step s c None (Err e) = refused s (change.Refused e)
+abbrev pub change_step : State → Change → Option Layout → Result Floorplan ChangeRefusal → Step (PlanRefusal ChangeRefusal)
+change_step s c (Some before) given = refused s TrialOpen
+change_step s c None (Err e) = refused s (Refused e)
 change_step s c None (Ok p) = done (record { current = layout_after s.current c p; noted = Some s.current })
 
 -- change: refused in a trial; else it opens one, which notes what was current
-abbrev pub model_change : State → Change → Step PlanChangeRefusal
+abbrev pub model_change : State → Change → Step (PlanRefusal ChangeRefusal)
 model_change s c = change_step s c s.noted (after_change s.current.plan c)
 
 -- a keep by whether a trial is open

@@ -4,10 +4,8 @@ use Rattle.plans.specs.declared.refusals.LoadRefusal.{LoadRefusal}
 use Rattle.plans.specs.declared.refusals.LoadRefusal.TheVariants.{WrongShape, WrongCode, SelfRelated, NotOneEdge, NotClosed, WrongPlace, Backwards}
 use Rattle.plans.specs.declared.refusals.ChangeRefusal.{ChangeRefusal}
 use Rattle.plans.specs.declared.refusals.ChangeRefusal.TheVariants.{NoModule, SameModule, NoEdge, NoReductionEdge}
-use Rattle.plans.specs.declared.refusals.PlanLoadRefusal.{PlanLoadRefusal}
-use Rattle.plans.specs.declared.refusals.PlanLoadRefusal.TheVariants as load
-use Rattle.plans.specs.declared.refusals.PlanChangeRefusal.{PlanChangeRefusal}
-use Rattle.plans.specs.declared.refusals.PlanChangeRefusal.TheVariants as change
+use Rattle.plans.specs.declared.refusals.PlanRefusal.{PlanRefusal}
+use Rattle.plans.specs.declared.refusals.PlanRefusal.TheVariants.{TrialOpen, Refused}
 use Rattle.plans.specs.declared.refusals.TrialRefusal.{TrialRefusal}
 use Rattle.plans.specs.declared.refusals.TrialRefusal.TheVariants.{NoTrial}
 use Rattle.plans.specs.declared.pack_refusals.PackRefusal.{PackRefusal}
@@ -36,15 +34,10 @@ number_of_change SameModule = 22
 number_of_change NoEdge = 23
 number_of_change NoReductionEdge = 24
 
--- 20: a plan refuses a load or a change since a trial is open
-abbrev pub number_of_plan_load : PlanLoadRefusal → ℕ
-number_of_plan_load load.TrialOpen = 20
-number_of_plan_load (load.Refused e) = number_of_load e
-
--- the same for a change
-abbrev pub number_of_plan_change : PlanChangeRefusal → ℕ
-number_of_plan_change change.TrialOpen = 20
-number_of_plan_change (change.Refused e) = number_of_change e
+-- 20: a plan refuses a load or a change since a trial is open, and else as its representation does
+abbrev pub number_of_plan : {E : Type 0} → (E → ℕ) → PlanRefusal E → ℕ
+number_of_plan number TrialOpen = 20
+number_of_plan number (Refused e) = number e
 
 -- 30: there is no trial to end
 abbrev pub number_of_trial : TrialRefusal → ℕ
@@ -105,14 +98,9 @@ told_by_rotation (rotation.Packing e) = told_by_pack e
 told_by_rotation rotation.NoModule = []
 
 -- what a plan's refusals tell: those of its representation
-abbrev pub told_by_plan_load : PlanLoadRefusal → List ℕ
-told_by_plan_load load.TrialOpen = []
-told_by_plan_load (load.Refused e) = told_by_load e
-
--- the same for a change
-abbrev pub told_by_plan_change : PlanChangeRefusal → List ℕ
-told_by_plan_change change.TrialOpen = []
-told_by_plan_change (change.Refused e) = told_by_change e
+abbrev pub told_by_plan : {E : Type 0} → (E → List ℕ) → PlanRefusal E → List ℕ
+told_by_plan told TrialOpen = []
+told_by_plan told (Refused e) = told e
 
 -- no trial to end tells nothing more, nor does a length that can't be made
 abbrev pub told_by_trial : TrialRefusal → List ℕ

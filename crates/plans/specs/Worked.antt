@@ -21,7 +21,7 @@ use Rattle.plans.specs.declared.measures.Chip.{Chip}
 use Rattle.plans.specs.declared.refusals.LoadRefusal.{LoadRefusal}
 use Rattle.plans.specs.declared.refusals.LoadRefusal.TheVariants.{NotClosed, Backwards}
 use Rattle.plans.specs.declared.refusals.ChangeRefusal.TheVariants.{NoEdge, NoReductionEdge}
-use Rattle.plans.specs.declared.refusals.PlanChangeRefusal.TheVariants as change-refusal
+use Rattle.plans.specs.declared.refusals.PlanRefusal.TheVariants.{Refused}
 use Rattle.plans.specs.declared.pack_refusals.PackRefusal.{PackRefusal}
 use Rattle.plans.specs.declared.pack_refusals.PackRefusal.TheVariants.{WrongSide}
 use Rattle.plans.specs.declared.pack_refusals.PinnedRefusal.TheVariants.{NoPlace}
@@ -129,7 +129,7 @@ pub record WorkedPlans : Type 0 where
       run (made_of two_beside_one_other) (change (MoveEdge 0 1) ∷ keep ∷ []) ≡ made_of (three 0 2 0 0 0 0 2 2 0 2 0 1)
   pub moved_then_not :
       (model_change (run (made_of two_beside_one_other) (change (MoveEdge 0 1) ∷ keep ∷ [])) (MoveEdge 2 1)).answer
-      ≡ Err (change-refusal.Refused NoReductionEdge)
+      ≡ Err (Refused NoReductionEdge)
   pub moved_accepted : reload (three 0 2 0 0 0 0 2 2 0 2 0 1) ≡ Ok (three 0 2 0 0 0 0 2 2 0 2 0 1)
   pub moved_number : number_of_change NoReductionEdge ≡ 24
   -- a reverse against the edge, refused by 23

@@ -1,6 +1,10 @@
 // What a packing and the making of a length refuse: each case with what it tells.
 ghost use Rattle.std.specs.Prelude.{◌≡◌};
 ghost use Rattle.plans.specs.Numbers.{number_of_pack, number_of_pinned, number_of_rotation, number_of_length};
+ghost use Rattle.plans.specs.declared.pack_refusals.PinnedRefusal.TheVariants as pinned;
+ghost use Rattle.plans.specs.declared.pack_refusals.RotationRefusal.TheVariants as rotation;
+
+use crate::refusals::Refusal;
 
 // A packing that is refused.
 #[derive(Clone, Copy)]
@@ -42,10 +46,10 @@ pub enum LengthRefusal {
     WrongCount,
 }
 
-impl PackRefusal {
-    pub fn number(&self) -> u16
-        ensures { result ≡ number_of_pack self.now }
-    {
+impl Refusal for PackRefusal {
+    ghost number_of = { number_of_pack };
+
+    fn number(&self) -> u16 {
         match self {
             PackRefusal::WrongSides => 40,
             PackRefusal::ShortResults => 41,
@@ -54,10 +58,10 @@ impl PackRefusal {
     }
 }
 
-impl PinnedRefusal {
-    pub fn number(&self) -> u16
-        ensures { result ≡ number_of_pinned self.now }
-    {
+impl Refusal for PinnedRefusal {
+    ghost number_of = { number_of_pinned };
+
+    fn number(&self) -> u16 {
         match self {
             PinnedRefusal::Packing(refusal) => refusal.number(),
             PinnedRefusal::NoModule => 43,
@@ -67,10 +71,10 @@ impl PinnedRefusal {
     }
 }
 
-impl RotationRefusal {
-    pub fn number(&self) -> u16
-        ensures { result ≡ number_of_rotation self.now }
-    {
+impl Refusal for RotationRefusal {
+    ghost number_of = { number_of_rotation };
+
+    fn number(&self) -> u16 {
         match self {
             RotationRefusal::Packing(refusal) => refusal.number(),
             RotationRefusal::NoModule => 43,
@@ -78,12 +82,30 @@ impl RotationRefusal {
     }
 }
 
-impl LengthRefusal {
-    pub fn number(&self) -> u16
-        ensures { result ≡ number_of_length self.now }
-    {
+impl Refusal for LengthRefusal {
+    ghost number_of = { number_of_length };
+
+    fn number(&self) -> u16 {
         match self {
             LengthRefusal::WrongCount => 50,
         }
+    }
+}
+
+// What any packing refuses, a packing with a module pinned refuses too.
+impl From<PackRefusal> for PinnedRefusal {
+    ghost from_gives = { λ cause r. r ≡ pinned.Packing cause };
+
+    fn from(cause: PackRefusal) -> PinnedRefusal {
+        PinnedRefusal::Packing(cause)
+    }
+}
+
+// And so does one with a module rotated once more.
+impl From<PackRefusal> for RotationRefusal {
+    ghost from_gives = { λ cause r. r ≡ rotation.Packing cause };
+
+    fn from(cause: PackRefusal) -> RotationRefusal {
+        RotationRefusal::Packing(cause)
     }
 }

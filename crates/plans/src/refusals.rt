@@ -1,6 +1,15 @@
 // What a representation and a plan refuse: each case with what it tells.
-ghost use Rattle.std.specs.Prelude.{◌≡◌};
-ghost use Rattle.plans.specs.Numbers.{number_of_load, number_of_change, number_of_plan_load, number_of_plan_change, number_of_trial};
+ghost use Rattle.std.specs.Prelude.{◌≡◌, ℕ};
+ghost use Rattle.plans.specs.Numbers.{number_of_load, number_of_change, number_of_plan, number_of_trial};
+ghost use Rattle.plans.specs.declared.refusals.PlanRefusal.TheVariants.{Refused};
+
+// What is refused, by the number that the listing prints.
+pub trait Refusal {
+    ghost number_of: { Self → ℕ };
+
+    fn number(&self) -> u16
+        ensures { result ≡ number_of self.now };
+}
 
 // A load that a representation refuses. Pairs are the first in row order.
 #[derive(Clone, Copy)]
@@ -34,23 +43,18 @@ pub enum ChangeRefusal {
     NoReductionEdge,
 }
 
-// A load that a plan refuses.
+// A load or a change that a plan refuses.
 #[derive(Clone, Copy)]
-pub enum PlanLoadRefusal {
+pub enum PlanRefusal<E> {
     // a trial is open
     TrialOpen,
     // the representation refuses
-    Refused(LoadRefusal),
+    Refused(E),
 }
 
-// A change that a plan refuses.
-#[derive(Clone, Copy)]
-pub enum PlanChangeRefusal {
-    // a trial is open
-    TrialOpen,
-    // the representation refuses
-    Refused(ChangeRefusal),
-}
+pub type PlanLoadRefusal = PlanRefusal<LoadRefusal>;
+
+pub type PlanChangeRefusal = PlanRefusal<ChangeRefusal>;
 
 // A keep or an undo that a plan refuses.
 #[derive(Clone, Copy)]
@@ -59,10 +63,10 @@ pub enum TrialRefusal {
     NoTrial,
 }
 
-impl LoadRefusal {
-    pub fn number(&self) -> u16
-        ensures { result ≡ number_of_load self.now }
-    {
+impl Refusal for LoadRefusal {
+    ghost number_of = { number_of_load };
+
+    fn number(&self) -> u16 {
         match self {
             LoadRefusal::WrongShape => 10,
             LoadRefusal::WrongCode(_, _) => 11,
@@ -75,10 +79,10 @@ impl LoadRefusal {
     }
 }
 
-impl ChangeRefusal {
-    pub fn number(&self) -> u16
-        ensures { result ≡ number_of_change self.now }
-    {
+impl Refusal for ChangeRefusal {
+    ghost number_of = { number_of_change };
+
+    fn number(&self) -> u16 {
         match self {
             ChangeRefusal::NoModule => 21,
             ChangeRefusal::SameModule => 22,
@@ -88,34 +92,32 @@ impl ChangeRefusal {
     }
 }
 
-impl PlanLoadRefusal {
-    pub fn number(&self) -> u16
-        ensures { result ≡ number_of_plan_load self.now }
-    {
+impl<E: Refusal> Refusal for PlanRefusal<E> {
+    ghost number_of = { number_of_plan E.Refusal.number_of };
+
+    fn number(&self) -> u16 {
         match self {
-            PlanLoadRefusal::TrialOpen => 20,
-            PlanLoadRefusal::Refused(refusal) => refusal.number(),
+            PlanRefusal::TrialOpen => 20,
+            PlanRefusal::Refused(refusal) => refusal.number(),
         }
     }
 }
 
-impl PlanChangeRefusal {
-    pub fn number(&self) -> u16
-        ensures { result ≡ number_of_plan_change self.now }
-    {
-        match self {
-            PlanChangeRefusal::TrialOpen => 20,
-            PlanChangeRefusal::Refused(refusal) => refusal.number(),
-        }
-    }
-}
+impl Refusal for TrialRefusal {
+    ghost number_of = { number_of_trial };
 
-impl TrialRefusal {
-    pub fn number(&self) -> u16
-        ensures { result ≡ number_of_trial self.now }
-    {
+    fn number(&self) -> u16 {
         match self {
             TrialRefusal::NoTrial => 30,
         }
+    }
+}
+
+// What a representation refuses, as a plan over it does.
+impl<E> From<E> for PlanRefusal<E> {
+    ghost from_gives = { λ refusal r. r ≡ Refused refusal };
+
+    fn from(refusal: E) -> PlanRefusal<E> {
+        PlanRefusal::Refused(refusal)
     }
 }

@@ -1,19 +1,34 @@
 -- What a layer that exchanges the axes passes on: a change, a load, and the refusal of a list that is too long.
-use Rattle.std.proofs.Common.{◌≡◌, ℕ, ◌*◌, ◌<◌, ◌≤◌, true, not, eqb, ltb, List, map, length, get_or, take, Ok, Err, Result, sym, refl, ap, ◌∙◌, subst, inl, inr, arith}
+use Rattle.std.proofs.Common.{◌≡◌, ℕ, ◌*◌, ◌<◌, ◌≤◌, true, not, eqb, ltb, List, map, length, get_or, take, Some, None, Option, MatchOption, IsSomeAnd, Ok, Err, Result, sym, refl, ap, ◌∙◌, subst, inl, inr, arith}
 use Rattle.std.proofs.lemmas.Nat.{mul-le}
 use Rattle.std.proofs.lemmas.List.{same_lists, length-map, length-take-le, get_or-take, get_or-map, get_or_default}
 use Rattle.std.proofs.lemmas.Bool.{cases_lt, lt-ltb, ne_eqb, or_left, or_right, not_from_false}
 use Rattle.plans.proofs.TransposeLaw.{transpose_law}
 use Rattle.plans.proofs.Transposing.{map_twice}
 use Rattle.plans.specs.Changes.{Follows, after_load, after_change}
+use Rattle.plans.specs.Directions.{code_along, code_told, turned}
 use Rattle.plans.specs.Tables.{Floorplan}
 use Rattle.plans.specs.Tests.{misshapen}
 use Rattle.plans.specs.TransposeLaw.{transpose_made}
 use Rattle.plans.specs.Transposed.{other_code, transpose}
 use Rattle.plans.specs.declared.change.Change.{Change}
+use Rattle.plans.specs.declared.direction.Direction.{Direction}
+use Rattle.plans.specs.declared.direction.Direction.TheVariants.{Right, Above}
 use Rattle.plans.specs.declared.refusals.ChangeRefusal.{ChangeRefusal}
 use Rattle.plans.specs.declared.refusals.LoadRefusal.{LoadRefusal}
 use Rattle.plans.specs.declared.refusals.LoadRefusal.TheVariants.{WrongShape}
+
+code_turned : (d : Direction) → code_along (turned d) ≡ other_code (code_along d)
+code_turned Right = refl
+code_turned Above = refl
+
+-- the code of a direction that is turned, if there is one
+pub told_turned :
+    (d r : Option Direction) → MatchOption d (r ≡ None) (λ x. IsSomeAnd r (λ y. y ≡ turned x))
+    → code_told r ≡ other_code (code_told d)
+told_turned None r h = ap code_told h
+told_turned (Some x) (Some y) h = ap code_along h ∙ code_turned x
+told_turned (Some x) None h = absurd h
 
 -- an answer below follows the made floorplan exchanged, above
 follows_made :

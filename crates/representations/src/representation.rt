@@ -1,10 +1,11 @@
 // The trait of all representations.
 ghost use Rattle.std.specs.Prelude.{◌≡◌};
 ghost use Rattle.plans.specs.Changes.{Follows, after_load, after_change};
+ghost use Rattle.plans.specs.Directions.{code_told};
 ghost use Rattle.plans.specs.Tables.{Floorplan, Feasible, table_in, module_at};
 ghost use Rattle.plans.specs.declared.change.Change.TheVariants.{Swap, Reverse, MoveEdge};
 
-use plans::{ChangeRefusal, LoadRefusal};
+use plans::{ChangeRefusal, Direction, LoadRefusal};
 
 // What stands for one feasible floorplan. Asking changes nothing; a load or a change answers its first
 // refusal and keeps what is meant, or is done and means what the definitions give.
@@ -15,9 +16,16 @@ pub trait Representation {
     fn modules(&self) -> usize
         ensures { result ≡ (means self.now).size };
 
-    // 1 where i is left of j, 2 where i is below j, else 0, also outside the plan.
+    // Where j lies from i, if there is an edge from i to j; none outside the plan.
+    fn direction(&self, i: usize, j: usize) -> Option<Direction>
+        ensures { code_told result ≡ table_in (means self.now) i j };
+
+    // 1 where i is left of j, 2 where i is below j, else 0, also outside the plan: the byte that a load takes.
     fn code(&self, i: usize, j: usize) -> u8
-        ensures { result ≡ table_in (means self.now) i j };
+        ensures { result ≡ table_in (means self.now) i j }
+    {
+        self.direction(i, j).map_or(0, u8::from)
+    }
 
     // The module at a place of the packing sequence, none outside it.
     fn module_at(&self, place: usize) -> Option<usize>

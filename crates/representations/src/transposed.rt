@@ -4,7 +4,7 @@ ghost use Rattle.plans.specs.Transposed.{other_code, transpose};
 ghost use Rattle.plans.proofs.TransposeLaw.{transpose_law};
 
 use crate::representation::Representation;
-use plans::{ChangeRefusal, LoadRefusal};
+use plans::{ChangeRefusal, Direction, LoadRefusal};
 
 // What the inner representation means, with codes 1 and 2 exchanged and the same sequence.
 #[derive(Drop)]
@@ -20,13 +20,12 @@ fn exchanged_code(code: u8) -> u8
     }
 }
 
-// Writes the exchanged codes into the first places of a longer list.
-fn exchange_codes(codes: &[u8], exchanged: &mut [u8])
-    requires { length codes.now ≤ length exchanged.old }
-    ensures { take (length codes.now) exchanged.new ≡ map other_code codes.now }
+// Exchanges every code of a list.
+fn exchange_codes(codes: &mut [u8])
+    ensures { codes.new ≡ map other_code codes.old }
 {
-    for (k, code) in codes.iter().enumerate() {
-        exchanged[k] = exchanged_code(*code);
+    for code in codes.iter_mut() {
+        *code = exchanged_code(*code);
     }
 }
 
@@ -39,8 +38,8 @@ impl<R: Representation> Representation for Transposed<R> {
         self.0.modules()
     }
 
-    fn code(&self, i: usize, j: usize) -> u8 {
-        exchanged_code(self.0.code(i, j))
+    fn direction(&self, i: usize, j: usize) -> Option<Direction> {
+        self.0.direction(i, j).map(Direction::turned)
     }
 
     fn module_at(&self, place: usize) -> Option<usize> {
@@ -48,12 +47,14 @@ impl<R: Representation> Representation for Transposed<R> {
     }
 
     fn load(&mut self, codes: &[u8], sequence: &[usize]) -> Result<(), LoadRefusal> {
-        let mut exchanged = [0; 4096];
-        if codes.len() > exchanged.len() {
+        let mut room = [0; 4096];
+        if codes.len() > room.len() {
             return Err(LoadRefusal::WrongShape);
         }
-        exchange_codes(codes, &mut exchanged);
-        self.0.load(&exchanged[0..codes.len()], sequence)
+        let exchanged = &mut room[..codes.len()];
+        exchanged.copy_from_slice(codes);
+        exchange_codes(exchanged);
+        self.0.load(exchanged, sequence)
     }
 
     fn swap(&mut self, a: usize, b: usize) -> Result<(), ChangeRefusal> {

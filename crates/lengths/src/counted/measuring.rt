@@ -1,5 +1,5 @@
 // Counted lengths as a kind of length.
-ghost use Rattle.std.specs.Prelude.{◌≡◌};
+ghost use Rattle.std.specs.Prelude.{◌≡◌, refl};
 ghost use Rattle.lengths.specs.CountedLengths.{count_of, count_capped, counted_lengths};
 ghost use Rattle.lengths.specs.Sums.{SumWithin};
 ghost use Rattle.lengths.specs.OfferedLemmas.{counted_laws};
@@ -22,16 +22,16 @@ impl Counted {
 impl Length for Counted {
     ghost kind = { counted_lengths };
 
+    ghost ZERO = { counted_lengths.origin };
+
+    ghost zero = { refl };
+
+    ghost lawful = { counted_laws };
+
     const ZERO: Counted = Counted {
         length: 0,
         borders: 0,
     };
-
-    ghost lawful = { counted_laws };
-
-    fn origin() -> Counted {
-        Self::ZERO
-    }
 
     // Beyond the limit length and borders stop at the greatest number.
     fn plus(self, other: Counted) -> Counted
@@ -41,12 +41,8 @@ impl Length for Counted {
         self.added(other)
     }
 
-    fn join(self, other: Counted) -> Counted {
-        if self.at_most(other) { other } else { self }
-    }
-
     fn at_most(self, other: Counted) -> bool {
-        self.length < other.length || (self.length == other.length && self.borders <= other.borders)
+        self <= other
     }
 
     fn extent(self) -> u32 {

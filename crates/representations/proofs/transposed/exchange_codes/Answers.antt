@@ -1,10 +1,14 @@
--- All the codes are exchanged when the loop ends.
-use Rattle.std.proofs.Common.{arith}
+-- One code more is exchanged.
+use Rattle.std.proofs.Common.{ap, get_or, slice_set, ◌∙◌, arith}
+use Rattle.std.proofs.lemmas.List.{get_or_default}
+use Rattle.std.proofs.lemmas.List.Edits.{map_over_more}
 use Rattle.plans.specs.Transposed.{other_code}
-use Rattle.representations.proofs.Layers.{front_mapped}
 use Rattle.representations.proofs.transposed.exchange_codes.Goals as goal
 
-pub returns : goal.returns
-returns c =
-    front_mapped other_code c.loop-k.exchanged c.args.codes.now (omega arith)
-    (λ i h. c.loop-k.invariant i (omega arith))
+pub loop-code-preserved : goal.loop-code-preserved
+loop-code-preserved c =
+    let codes = c.loop-code.codes in
+    let i = c.loop-code.code-index in
+    ap (slice_set codes i) c.exchanged_code.ensures
+    ∙ map_over_more other_code c.args.codes.now codes i (get_or codes i 0) (omega arith) c.loop-code.invariant
+    (get_or_default codes i 0 _ (omega arith))
