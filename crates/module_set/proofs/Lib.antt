@@ -1,5 +1,4 @@
--- What the bits of a number tell, the members of a set by them, and sets made or emptied member by member.
+-- What the bits of a number tell, the members of a set by them, and taking them out.
 pub mod Bits
 pub mod Membership
 pub mod Taking
-pub mod Found

@@ -41,6 +41,7 @@ fn graph_of(table: Table<'_>, direction: Direction) -> Graph
     ensures { (i j : ℕ) → edge result i j ≡ (table_in table.entry i j == code_along direction) }
 {
     let mut graph = Graph::empty();
+    // by the row's number, since chunks of the codes would ask for a test that there are modules
     for i in 0..table.modules {
         graph.set_successors(i, row_of(table.row(i), direction));
     }

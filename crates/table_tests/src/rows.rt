@@ -2,7 +2,7 @@
 ghost use Rattle.std.specs.Prelude.{ℕ, ◌<◌};
 ghost use Rattle.table_tests.specs.Rows.{FirstRow};
 
-// The first row in which something is found, with what is found there first.
+// The first row in which something is found, with what is found there first. The loop reads no place by i.
 pub(crate) fn first_in_rows<F: Fn(usize) -> Option<usize>>(
     modules: usize,
     in_row: F,

@@ -24,6 +24,7 @@ impl Graph {
     }
 
     // The modules to which i has an edge.
+    #[tactic(auto, using(crate::proofs::Rows::edge_inside, crate::proofs::Rows::edge_outside))]
     pub fn successors(&self, i: usize) -> ModuleSet
         ensures { (j : ℕ) → member result j ≡ edge self.now i j }
     {
