@@ -82,15 +82,11 @@ impl ModuleSet {
     pub fn exchanged(self, a: usize, b: usize) -> ModuleSet
         ensures { (k : ℕ) → member result k ≡ member self (if nat_lt a 64 && nat_lt b 64 then exchange a b k else k) }
     {
-        let (has_a, has_b) = (self.contains(a), self.contains(b));
-        if a < 64 && b < 64 && has_a != has_b {
-            let both = ModuleSet::single(a).union(ModuleSet::single(b));
-            if has_a {
-                return self.minus(both).with(b);
-            }
-            return self.minus(both).with(a);
+        if a < 64 && b < 64 && self.contains(a) != self.contains(b) {
+            self.toggled(a).toggled(b)
+        } else {
+            self
         }
-        self
     }
 
     // Whether there is no member.
