@@ -47,18 +47,6 @@ row_codes plan m i base s j b e h =
     let r : (base + j) % m ≡ j = ap (λ x. (x + j) % m) b ∙ mod-mul-add i m j h in
     ap₂ (λ a b. code_at plan (line_start plan (a + 1) + b)) q r ∙ ap (λ x. code_at plan (x + j)) (sym e)
 
--- one more place is zero
-pub cleared_more : {X : Type 0} (nought : X) (xs : List X) (i : ℕ) → i < length xs → ((k : ℕ) → k < i → get_or xs k nought ≡ nought) → (k : ℕ) → k < i + 1 → get_or (set xs i nought) k nought ≡ nought
-cleared_more nought xs i h all k l =
-    ⊎_elim
-    (λ (same : k ≡ i). subst (λ (j : ℕ). get_or (set xs i nought) j nought ≡ nought) (sym same) (get_or-set_same xs i nought nought h))
-    (λ (other : k ≢ i). get_or-set_other xs i k nought nought other ∙ all k (omega arith))
-    (cases_eq k i)
-
--- every place is
-pub cleared_all : {X : Type 0} (nought : X) (xs : List X) (i : ℕ) → length xs ≤ i → ((k : ℕ) → k < i → get_or xs k nought ≡ nought) → Cleared nought xs
-cleared_all nought xs i h all k = ⊎_elim (λ (l : k < i). all k l) (λ (g : i ≤ k). get_or_past xs k nought (omega arith)) (cases_lt k i)
-
 -- what a fault leaves
 pub left_kept : {X : Type 0} (nought : X) (w : Wrong) (xs : List X) → clears w ≡ false → Left nought w xs xs
 left_kept nought w xs e = subst (λ (b : Bool). MatchBool b (Cleared nought xs) (xs ≡ xs)) (sym e) refl

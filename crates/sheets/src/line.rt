@@ -1,6 +1,13 @@
 // Lines of a sheet, by their offsets.
-ghost use Rattle.std.specs.Prelude.{◌≡◌, ◌+◌, ◌<◌, ◌≤◌, T, length};
+ghost use Rattle.std.specs.Prelude.{◌≡◌, ◌+◌, ◌<◌, ◌≤◌, ◌==◌, T, length, position};
 ghost use Rattle.sheets.specs.Lines.{goes_on, width_at, has_width};
+
+// Where the first byte 10 stands.
+fn line_end(bytes: &[u8]) -> Option<usize>
+    ensures { result ≡ position (λ b. b == 10) bytes.now }
+{
+    bytes.iter().position(|b| *b == b'\n')
+}
 
 // How many bytes the line at `start` has before its byte 10.
 pub(crate) fn line_width(sheet: &[u8], start: usize) -> usize
@@ -8,12 +15,8 @@ pub(crate) fn line_width(sheet: &[u8], start: usize) -> usize
     ensures exact { result ≡ width_at sheet.now start }
     ensures within { start + result ≤ length sheet.now }
 {
-    for end in start..sheet.len() {
-        if sheet[end] == b'\n' {
-            return end - start;
-        }
-    }
-    sheet.len() - start
+    let rest = &sheet[start..];
+    line_end(rest).unwrap_or(rest.len())
 }
 
 // Whether the line at `start` is there, has `width` bytes and ends in byte 10.
@@ -22,11 +25,7 @@ pub(crate) fn has_width(sheet: &[u8], start: usize, width: usize) -> bool
     ensures exact { result ≡ has_width sheet.now start width }
     ensures within { T result → start + width < length sheet.now }
 {
-    if line_width(sheet, start) != width {
-        return false;
-    }
-    let end = start + width;
-    end < sheet.len() && sheet[end] == b'\n'
+    line_width(sheet, start) == width && sheet.get(start + width) == Some(&b'\n')
 }
 
 // Whether the sheet has a byte at `start`.
