@@ -1,8 +1,11 @@
 -- Lemmas on checks: the first that applies, in a list made of parts, and its law.
-use Rattle.std.proofs.Common.{◌≡◌, ℕ, zero, suc, ◌+◌, ◌-◌, ◌<◌, Bool, true, false, cond, not, List, [], ◌∷◌, ◌++◌, get_or, is_some, Some, None, Option, sym, refl, ap, ◌∙◌, ⊎_elim, suc-le-suc, le_of_suc-le-suc, arith}
+use Rattle.std.proofs.Common.{length, ◌≤◌, ◌≡◌, ℕ, zero, suc, ◌+◌, ◌-◌, ◌<◌, Bool, true, false, cond, not, List, [], ◌∷◌, ◌++◌, get_or, is_some, Some, None, Option, sym, refl, ap, ◌∙◌, ⊎_elim, suc-le-suc, le_of_suc-le-suc, arith}
 use Rattle.std.specs.List.{range_with_len, flat_map}
 use Rattle.std.proofs.lemmas.Bool.{cond-true, cond-false, cases_Bool}
 use Rattle.sheets.specs.declared.fault.Finding.{Finding}
+use Rattle.sheets.specs.declared.fault.Sheet.{Sheet}
+use Rattle.sheets.specs.Faults.{clears}
+use Rattle.sheets.specs.Promises.{Fails, Passes}
 use Rattle.sheets.specs.Checks.{Check, tell_if, first, StandsFirst, NoneApplies}
 
 pub first_none : first [] ≡ None
@@ -84,3 +87,21 @@ none_applies (x ∷ xs) e (suc k) d =
     (λ t. let h : Some x.tells ≡ None = sym (cond-true x.applies (Some x.tells) (first xs) t) ∙ e in let z : ◌≡◌ {A = ℕ} 0 1 = cc in absurd (omega arith))
     (λ n. none_applies xs (sym (cond-false x.applies (Some x.tells) (first xs) n) ∙ e) k d)
     (cases_Bool x.applies)
+
+-- the same of stages, one behind the other: a fault of the first, a fault of the second, and none of both
+pub fails_front : {name : Sheet} {bytes : List ℕ} {xs : List Check} {f : Finding} (ys : List Check) → Fails name bytes xs f → Fails name bytes (xs ++ ys) f
+fails_front {xs = xs} {f = f} ys h = record { found = first_front xs ys f h.found; named = h.named; within = h.within; clearing = h.clearing }
+
+pub fails_behind : {name : Sheet} {bytes : List ℕ} {xs ys : List Check} {f : Finding} → Passes xs → Fails name bytes ys f → Fails name bytes (xs ++ ys) f
+fails_behind {xs = xs} {ys = ys} p h = record { found = first_rest xs ys p.none ∙ h.found; named = h.named; within = h.within; clearing = h.clearing }
+
+pub passes_both : {xs ys : List Check} → Passes xs → Passes ys → Passes (xs ++ ys)
+passes_both {xs = xs} {ys = ys} p q = record { none = first_rest xs ys p.none ∙ q.none }
+
+-- a fault that the first check finds
+pub fails_here : {name : Sheet} {bytes : List ℕ} {b : Bool} {f : Finding} {cs : List Check} → b ≡ true → f.sheet ≡ name → f.from + f.width ≤ length bytes → clears f.wrong ≡ true → Fails name bytes (tell_if b f ∷ cs) f
+fails_here {b = b} {f = f} {cs = cs} here named within clearing = record { found = first_here b f cs here; named = named; within = within; clearing = clearing }
+
+-- and one that finds none
+pub passes_here : {b : Bool} {f : Finding} → b ≡ false → Passes (tell_if b f ∷ [])
+passes_here {b = b} {f = f} e = record { none = first_next b f [] e }

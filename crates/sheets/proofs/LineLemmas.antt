@@ -1,11 +1,14 @@
 -- Lemmas on lines: their width one byte on and at their end, and that a line lies in its sheet.
-use Rattle.std.proofs.Common.{◌-◌, take, drop, not, ◌≡◌, ℕ, position, unwrap_or, refl, sym, ◌+◌, ◌<◌, ◌≤◌, true, false, eqb, List, length, get_or, ap, ◌∙◌, inl, inr, add-one, arith}
+use Rattle.std.proofs.Common.{subst, min, ◌^◌, ◌-◌, take, drop, not, ◌≡◌, ℕ, position, unwrap_or, refl, sym, ◌+◌, ◌<◌, ◌≤◌, true, false, eqb, List, length, get_or, ap, ◌∙◌, inl, inr, add-one, arith}
 use Rattle.std.proofs.lemmas.List.{take_all, length-drop, at_drop_more, at_drop_all, get_or_past}
 use Rattle.std.specs.List.{position_or_len}
 use Rattle.std.proofs.lemmas.List.Recursion.{is_position_or_len}
 use Rattle.std.proofs.lemmas.List.Sums.{prefix_len-le-length}
 use Rattle.std.proofs.lemmas.Bool.Decides.{nat_tests}
 use Rattle.std.proofs.lemmas.Bool.{cases_lt, cond-true, cond-false, eq-eqb, ne_eqb, eqb-true, and_parts, and_right}
+use Rattle.sheets.specs.declared.place.Place.{Place}
+use Rattle.sheets.specs.AtLines.{IsLine}
+use Rattle.sheets.specs.Promises.{Passed}
 use Rattle.sheets.specs.Lines.{line_width, width_at, next_line, line_start, has_width}
 
 -- the width of the line that a sheet begins with is the place of its byte 10, or all that there is
@@ -34,3 +37,15 @@ line_within sheet s w h =
     let p = and_parts (eqb (width_at sheet s) w) (eqb (get_or sheet (s + w) 0) 10) h in
     let e = eqb-true (width_at sheet s) w p.0 in
     (within_from_byte sheet (s + w) 10 (eqb-true (get_or sheet (s + w) 0) 10 p.1) (omega arith), ap (λ (x : ℕ). s + x + 1) e)
+
+-- behind line k of w bytes stands the next
+pub next_is_line : (sheet : List ℕ) (k w : ℕ) (at next : Place) → IsLine sheet k at → Passed sheet at.offset w → next.offset ≡ at.offset + w + 1 → next.line ≡ min (at.line + 1) (2 ^ 64 - 1) → k + 2 < 2 ^ 64 → IsLine sheet (k + 1) next
+next_is_line sheet k w at next here passed offset line few = record {
+  offset = offset ∙ sym passed.next ∙ ap (next_line sheet) here.offset ∙ sym (line_start_more sheet k);
+  line = (let e = here.line in omega arith);
+}
+
+-- what is said of a line by its place is said of line k
+pub at_line : {bytes sheet : List ℕ} {k : ℕ} {at : Place} (P : List ℕ → ℕ → ℕ → Type 0) → bytes ≡ sheet → IsLine sheet k at → P bytes at.line at.offset → P sheet (k + 1) (line_start sheet k)
+at_line {bytes = bytes} {sheet = sheet} {k = k} {at = at} P same here h =
+    subst (λ s. P s (k + 1) (line_start sheet k)) same (subst (λ n. P bytes n (line_start sheet k)) here.line (subst (λ o. P bytes at.line o) here.offset h))

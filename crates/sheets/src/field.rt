@@ -1,7 +1,6 @@
 // Fields: numbers in columns.
-ghost use Rattle.std.specs.Prelude.{◌≡◌, ◌+◌, ◌<◌, ◌≤◌, length, if◌then◌else◌, Some, None};
+ghost use Rattle.std.specs.Prelude.{◌≡◌, ◌<◌, ◌≤◌, length, if◌then◌else◌, Some, None};
 ghost use Rattle.sheets.specs.Fields.{after_blanks, all_digits, value_after, field_number};
-ghost use Rattle.sheets.specs.Lines.{part};
 
 // What is left of a field behind its blanks.
 fn after_blanks<'a>(field: &'a [u8]) -> &'a [u8]
@@ -31,7 +30,7 @@ fn digits(field: &[u8]) -> Option<u32>
 }
 
 // The number that a field holds, if it is written as it should be.
-fn number(field: &[u8]) -> Option<u32>
+pub(crate) fn number(field: &[u8]) -> Option<u32>
     requires { length field.now < 10 }
     ensures { result ≡ field_number field.now }
 {
@@ -39,13 +38,4 @@ fn number(field: &[u8]) -> Option<u32>
         [] | [b'0', _, ..] => None,
         rest => digits(rest),
     }
-}
-
-// The number in the field of `width` bytes at offset `from` of a sheet.
-pub(crate) fn number_at(sheet: &[u8], from: usize, width: usize) -> Option<u32>
-    requires within { from + width ≤ length sheet.now }
-    requires few { width < 10 }
-    ensures { result ≡ field_number (part sheet.now from width) }
-{
-    number(&sheet[from..from + width])
 }
