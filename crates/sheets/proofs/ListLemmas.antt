@@ -17,12 +17,6 @@ use Rattle.sheets.specs.Lists.{Filled, Cleared, Front}
 pub row_more : (i m : ℕ) → (i + 1) * m ≡ i * m + m
 row_more i m = add-mul i 1 m ∙ ap (λ (x : ℕ). i * m + x) (one-mul m)
 
--- the codes of row i of m rows lie in a list with room for 64 rows of 64
-pub row_room : (i m n : ℕ) → i < m → m ≤ 64 → 4096 ≤ n → i * m + m ≤ n
-row_room i m n h small room =
-    let e : (i + 1) * m ≡ i * m + m = row_more i m in
-    omega (arith, mul-le (i + 1) m 64 64 (omega arith) small)
-
 -- the code at letter j of row i, whose line starts at s
 pub row_codes : (plan : List ℕ) (m i base s j : ℕ) → base ≡ i * m → s ≡ line_start plan (i + 1) → j < m → code_read plan m (base + j) ≡ code_at plan (s + j)
 row_codes plan m i base s j b e h =

@@ -100,10 +100,6 @@ pub record ReadsLists (sizes plan : List ℕ) (before after : Held) (r : Result 
   pub found : Finds sizes plan before r
   pub lists : Leaves sizes plan before after
 
--- a fault of the lists' room, which comes first and leaves the lists, whatever the sheets hold
-abbrev pub TooShort : Held → Finding → Type 0
-TooShort h f = (sizes plan : List ℕ) → ReadsLists sizes plan h h (Err f)
-
 -- the room of the lists: the first fault, which does not clear them, or none
 abbrev pub ReadsRoom : ℕ → ℕ → ℕ → Result (Unit {0}) Finding → Type 0
 ReadsRoom sides codes places (Ok x) = first (list_checks sides codes places) ≡ None
