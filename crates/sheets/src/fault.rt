@@ -42,7 +42,7 @@ pub enum Sheet {
     Plan,
 }
 
-// What is wrong and where: line and column count from 1 and are 0 where none is meant;
+// What is wrong and where: line and column count from 1, and 0 is printed where none is meant;
 // the field at fault is the part of the sheet at offset `from`, `width` bytes long.
 #[derive(Clone, Copy)]
 pub struct Finding {

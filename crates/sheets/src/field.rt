@@ -14,7 +14,7 @@ fn after_blanks<'a>(field: &'a [u8]) -> &'a [u8]
     rest
 }
 
-// The number that a field's digits write, if they are digits.
+// The number that a field's digits write, if they are digits; `parse` would take a sign too.
 fn digits(field: &[u8]) -> Option<u32>
     requires { length field.now < 10 }
     ensures { result ≡ (if all_digits field.now then Some (value_after 0 field.now) else None) }
@@ -24,7 +24,7 @@ fn digits(field: &[u8]) -> Option<u32>
         if !b.is_ascii_digit() {
             return None;
         }
-        value = 10 * value + (*b - b'0') as u32;
+        value = 10 * value + u32::from(*b - b'0');
     }
     Some(value)
 }

@@ -45,6 +45,7 @@ fn check_lengths(sizes: &[u8], plan: &[u8]) -> Result<(), Finding>
 }
 
 // Both sheets, read into lists of zeros.
+// The lists are no struct: each contract over one would have to say that it keeps their references.
 fn read_all(
     sizes: &[u8],
     plan: &[u8],

@@ -41,6 +41,7 @@ pub(crate) fn read_rows<'a>(
     ensures { Reads sheets.Plan second.entry.bytes.now (rows_checks second.entry.bytes.now modules) (λ line. (line.bytes ≡ second.entry.bytes) × IsLine second.entry.bytes.now (modules + 1) line.at × Front 0 (code_read second.entry.bytes.now modules) (modules * modules) codes.new) result }
 {
     let mut line = second;
+    // `chunks_exact_mut` takes no chunks of 0, and no proof learns what its chunks hold afterwards.
     for i in 0..modules {
         read_row(line, &mut codes[i * modules..(i + 1) * modules])?;
         line = line.next(modules);

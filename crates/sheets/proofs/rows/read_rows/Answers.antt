@@ -69,8 +69,8 @@ loop-i-preserved c =
       read =
           front_part 0 (code_read plan m) (i * m) _ ((i + 1) * m) c.loop-i.codes c.read_row.new.codes (omega arith) within loop.read
           (λ j h.
-            subst (λ s. get_or c.read_row.new.codes j 0 ≡ code_at s (line.at.offset + j)) same (done.1.0 j (omega arith))
-            ∙ sym (row_codes plan m i (i * m) line.at.offset j refl loop.at.offset (omega arith)));
+          subst (λ s. get_or c.read_row.new.codes j 0 ≡ code_at s (line.at.offset + j)) same (done.1.0 j (omega arith))
+          ∙ sym (row_codes plan m i (i * m) line.at.offset j refl loop.at.offset (omega arith)));
     }
 
 pub returns : goal.returns
