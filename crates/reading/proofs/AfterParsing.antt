@@ -1,5 +1,5 @@
 -- A done parsing: what the load is given, that it can be given, and the outcome by what the load answers.
-use Rattle.std.proofs.Common.{◌≡◌, ℕ, ◌*◌, ◌≤◌, List, length, take, Some, None, Ok, Err, Result, sym, ap, ◌∙◌, subst, ap₂, inr, arith, Bor}
+use Rattle.std.proofs.Common.{MatchResult, ◌≡◌, ℕ, ◌*◌, ◌≤◌, List, length, take, Some, None, Ok, Err, Result, sym, ap, ◌∙◌, subst, ap₂, inr, arith, Bor}
 use Rattle.std.specs.Option.{option_map}
 use Rattle.std.proofs.lemmas.Nat.{mul-le}
 use Rattle.std.proofs.lemmas.List.FromFn.{length-map-range_with_len}
@@ -135,3 +135,15 @@ module _ {sizes plan : Bor (List ℕ)} {before after : Held} {p : Parsed} (d : D
 
     pub refused_means : new ≡ means_after plan.now (first_fault sizes.now plan.now before) old
     refused_means = refused_by.1 ∙ ap (λ o. means_after plan.now o old) (sym some)
+
+  -- the outcome by what the load answers
+  module _ (old new : Floorplan) where
+    pub told_if_refused : (r : Result (Unit {0}) LoadRefusal) → Loaded r old new → (e : LoadRefusal) → r ≡ Err e → ToldInPlan p.modules e
+    told_if_refused r loaded e same = refused_told old new e (subst (λ x. Loaded x old new) same loaded)
+
+    -- the refusal behind a fault
+    pub refusal_told :
+        (f : Fault) (r : Result (Unit {0}) LoadRefusal) → Loaded r old new → MatchResult r (λ _. ⊥) (λ e. Tells plan (plan_finding plan.now p.modules e) f)
+        → (e : LoadRefusal) × Loaded (Err e) old new × Tells plan (plan_finding plan.now p.modules e) f
+    refusal_told f (Ok x) loaded told = absurd told
+    refusal_told f (Err e) loaded told = (e, loaded, told)

@@ -17,10 +17,11 @@ fn load_front<R: Representation>(
     codes: &[u8],
     places: &[usize],
 ) -> Result<(), LoadRefusal>
-    requires room { (modules * modules ≤ length codes.now) × (modules ≤ length places.now) }
+    requires codes { modules * modules ≤ length codes.now }
+    requires places { modules ≤ length places.now }
     ensures { Follows (after_load (take (modules * modules) codes.now) (take modules places.now)) result (R.Representation.means representation.old) (R.Representation.means representation.new) }
 {
-    representation.load(&codes[0..modules * modules], &places[0..modules])
+    representation.load(&codes[..modules * modules], &places[..modules])
 }
 
 // Parses the sizes and the plan into the lists and loads the codes and the sequence as written;
@@ -40,8 +41,7 @@ pub fn read<'a, R: Representation>(
 {
     let parsed = parse(sizes, plan, sides, codes, places)?;
     let modules = parsed.modules;
-    match load_front(representation, modules, codes, places) {
-        Ok(()) => Ok(parsed),
-        Err(refusal) => Err(refused(plan, modules, refusal)),
-    }
+    let loaded = load_front(representation, modules, codes, places);
+    loaded.map_err(|refusal| refused(plan, modules, refusal))?;
+    Ok(parsed)
 }

@@ -1,12 +1,12 @@
 -- Lemmas on checks: the first that applies, in a list made of parts, and its law.
-use Rattle.std.proofs.Common.{◌≡◌, ℕ, zero, suc, ◌+◌, ◌-◌, ◌<◌, Bool, true, false, cond, not, List, [], ◌∷◌, ◌++◌, get_or, is_some, Some, None, Option, sym, refl, ap, ◌∙◌, ⊎_elim, suc-le-suc, le_of_suc-le-suc, arith}
+use Rattle.std.proofs.Common.{length, ◌≤◌, ◌≡◌, ℕ, zero, suc, ◌+◌, ◌-◌, ◌<◌, Bool, true, false, cond, not, List, [], ◌∷◌, ◌++◌, get_or, is_some, Some, None, Option, sym, refl, ap, ◌∙◌, ⊎_elim, suc-le-suc, le_of_suc-le-suc, arith}
 use Rattle.std.specs.List.{range_with_len, flat_map}
 use Rattle.std.proofs.lemmas.Bool.{cond-true, cond-false, cases_Bool}
 use Rattle.sheets.specs.declared.fault.Finding.{Finding}
+use Rattle.sheets.specs.declared.fault.Sheet.{Sheet}
+use Rattle.sheets.specs.Faults.{clears}
+use Rattle.sheets.specs.Promises.{Fails, Passes}
 use Rattle.sheets.specs.Checks.{Check, tell_if, first, StandsFirst, NoneApplies}
-
-pub first_none : first [] ≡ None
-first_none = refl
 
 pub first_here : (b : Bool) (f : Finding) (cs : List Check) → b ≡ true → first (tell_if b f ∷ cs) ≡ Some f
 first_here b f cs e = cond-true b (Some f) (first cs) e
@@ -27,26 +27,6 @@ first_rest [] ys e = refl
 first_rest (x ∷ xs) ys e =
     elim x.applies as (λ b. cond b (Some x.tells) (first xs) ≡ None → cond b (Some x.tells) (first (xs ++ ys)) ≡ first ys)
     [ true ↦ λ h. (let z : ◌≡◌ {A = ℕ} 0 1 = cc in absurd (omega arith)) | false ↦ λ h. first_rest xs ys h ] e
-
--- the checks for i to n, taken from its front
-pub counting_more : (i n : ℕ) → i < n → range_with_len i (n - i) ≡ i ∷ range_with_len (i + 1) (n - (i + 1))
-counting_more i n h = let e : n - i ≡ suc (n - (i + 1)) = omega arith in ap (range_with_len i) e
-
-pub each_front : (f : ℕ → List Check) (i n : ℕ) (w : Finding) → i < n → first (f i) ≡ Some w → first (flat_map f (range_with_len i (n - i))) ≡ Some w
-each_front f i n w h e = ap (λ (l : List ℕ). first (flat_map f l)) (counting_more i n h) ∙ first_front (f i) (flat_map f (range_with_len (i + 1) (n - (i + 1)))) w e
-
-pub each_rest : (f : ℕ → List Check) (i n : ℕ) → i < n → first (f i) ≡ None → first (flat_map f (range_with_len i (n - i))) ≡ first (flat_map f (range_with_len (i + 1) (n - (i + 1))))
-each_rest f i n h e = ap (λ (l : List ℕ). first (flat_map f l)) (counting_more i n h) ∙ first_rest (f i) (flat_map f (range_with_len (i + 1) (n - (i + 1)))) e
-
-pub each_all : (f : ℕ → List Check) (i n : ℕ) → n - i ≡ 0 → first (flat_map f (range_with_len i (n - i))) ≡ None
-each_all f i n e = ap (λ (k : ℕ). first (flat_map f (range_with_len i k))) e ∙ first_none
-
--- a single check that a field can be read: it tells its fault where there is nothing to read
-pub single_fault : {X : Type 0} (o : Option X) (f : Finding) → None ≡ o → first (tell_if (not (is_some o)) f ∷ []) ≡ Some f
-single_fault o f e = first_here (not (is_some o)) f [] (ap (λ q. not (is_some q)) (sym e))
-
-pub single_none : {X : Type 0} (o : Option X) (x : X) (f : Finding) → Some x ≡ o → first (tell_if (not (is_some o)) f ∷ []) ≡ None
-single_none o x f e = first_next (not (is_some o)) f [] (ap (λ q. not (is_some q)) (sym e)) ∙ first_none
 
 -- the law of the first
 pub stands_first : (cs : List Check) (f : Finding) → first cs ≡ Some f → StandsFirst cs f
@@ -84,3 +64,21 @@ none_applies (x ∷ xs) e (suc k) d =
     (λ t. let h : Some x.tells ≡ None = sym (cond-true x.applies (Some x.tells) (first xs) t) ∙ e in let z : ◌≡◌ {A = ℕ} 0 1 = cc in absurd (omega arith))
     (λ n. none_applies xs (sym (cond-false x.applies (Some x.tells) (first xs) n) ∙ e) k d)
     (cases_Bool x.applies)
+
+-- the same of stages, one behind the other: a fault of the first, a fault of the second, and none of both
+pub fails_front : {name : Sheet} {bytes : List ℕ} {xs : List Check} {f : Finding} (ys : List Check) → Fails name bytes xs f → Fails name bytes (xs ++ ys) f
+fails_front {xs = xs} {f = f} ys h = record { found = first_front xs ys f h.found; named = h.named; within = h.within; clearing = h.clearing }
+
+pub fails_behind : {name : Sheet} {bytes : List ℕ} {xs ys : List Check} {f : Finding} → Passes xs → Fails name bytes ys f → Fails name bytes (xs ++ ys) f
+fails_behind {xs = xs} {ys = ys} p h = record { found = first_rest xs ys p.none ∙ h.found; named = h.named; within = h.within; clearing = h.clearing }
+
+pub passes_both : {xs ys : List Check} → Passes xs → Passes ys → Passes (xs ++ ys)
+passes_both {xs = xs} {ys = ys} p q = record { none = first_rest xs ys p.none ∙ q.none }
+
+-- a fault that the first check finds
+pub fails_here : {name : Sheet} {bytes : List ℕ} {b : Bool} {f : Finding} {cs : List Check} → b ≡ true → f.sheet ≡ name → f.from + f.width ≤ length bytes → clears f.wrong ≡ true → Fails name bytes (tell_if b f ∷ cs) f
+fails_here {b = b} {f = f} {cs = cs} here named within clearing = record { found = first_here b f cs here; named = named; within = within; clearing = clearing }
+
+-- and one that finds none
+pub passes_here : {b : Bool} {f : Finding} → b ≡ false → Passes (tell_if b f ∷ [])
+passes_here {b = b} {f = f} e = record { none = first_next b f [] e }

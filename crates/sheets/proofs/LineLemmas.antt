@@ -1,22 +1,26 @@
 -- Lemmas on lines: their width one byte on and at their end, and that a line lies in its sheet.
-use Rattle.std.proofs.Common.{◌≡◌, ℕ, ◌+◌, ◌<◌, ◌≤◌, true, false, eqb, List, length, get_or, ap, ◌∙◌, inl, inr, add-one, arith}
-use Rattle.std.proofs.lemmas.List.{at_drop_more, at_drop_all, get_or_past}
+use Rattle.std.proofs.Common.{subst, min, ◌^◌, ◌-◌, take, drop, not, ◌≡◌, ℕ, position, unwrap_or, refl, sym, ◌+◌, ◌<◌, ◌≤◌, true, false, eqb, List, length, get_or, ap, ◌∙◌, inl, inr, add-one, arith}
+use Rattle.std.proofs.lemmas.List.{take_all, length-drop, at_drop_more, at_drop_all, get_or_past}
+use Rattle.std.specs.List.{position_or_len}
+use Rattle.std.proofs.lemmas.List.Recursion.{is_position_or_len}
+use Rattle.std.proofs.lemmas.List.Sums.{prefix_len-le-length}
+use Rattle.std.proofs.lemmas.Bool.Decides.{nat_tests}
 use Rattle.std.proofs.lemmas.Bool.{cases_lt, cond-true, cond-false, eq-eqb, ne_eqb, eqb-true, and_parts, and_right}
+use Rattle.sheets.specs.declared.place.Place.{Place}
+use Rattle.sheets.specs.AtLines.{IsLine}
+use Rattle.sheets.specs.Promises.{Passed}
 use Rattle.sheets.specs.Lines.{line_width, width_at, next_line, line_start, has_width}
 
--- a line begins with its byte 10
-pub width_none : (sheet : List ℕ) (i : ℕ) → i < length sheet → get_or sheet i 0 ≡ 10 → width_at sheet i ≡ 0
-width_none sheet i h e =
-    at_drop_more line_width sheet i 0 h ∙ cond-true (eqb (get_or sheet i 0) 10) 0 (1 + width_at sheet (i + 1)) (eq-eqb (get_or sheet i 0) 10 e)
+-- the width of the line that a sheet begins with is the place of its byte 10, or all that there is
+pub width_found : (sheet : List ℕ) → unwrap_or (position (λ b. eqb b 10) sheet) (length sheet) ≡ line_width sheet
+width_found sheet =
+    let first : line_width sheet ≡ position_or_len (λ b. eqb b 10) sheet = is_position_or_len line_width (λ b. eqb b 10) refl (λ b bs. refl) sheet in
+    let within : position_or_len (λ b. eqb b 10) sheet ≤ length sheet = prefix_len-le-length (λ b. not (eqb b 10)) sheet in
+    grind (arith, nat_tests)
 
--- a line begins with another byte
-pub width_more : (sheet : List ℕ) (i : ℕ) → i < length sheet → (get_or sheet i 0 ≡ 10 → ⊥) → width_at sheet i ≡ 1 + width_at sheet (i + 1)
-width_more sheet i h ne =
-    at_drop_more line_width sheet i 0 h ∙ cond-false (eqb (get_or sheet i 0) 10) 0 (1 + width_at sheet (i + 1)) (ne_eqb (get_or sheet i 0) 10 ne)
-
--- the sheet has ended
-pub width_all : (sheet : List ℕ) (i : ℕ) → length sheet ≤ i → width_at sheet i ≡ 0
-width_all sheet i h = at_drop_all line_width sheet i h
+-- and so it is where a line begins behind others
+pub width_at_found : (sheet : List ℕ) (s : ℕ) → let rest = take (length sheet - s) (drop s sheet) in unwrap_or (position (λ b. eqb b 10) rest) (length rest) ≡ width_at sheet s
+width_at_found sheet s = width_found (take (length sheet - s) (drop s sheet)) ∙ ap line_width (take_all (length sheet - s) (drop s sheet) (omega (arith, length-drop s sheet)))
 
 -- the line after line k
 pub line_start_more : (sheet : List ℕ) (k : ℕ) → line_start sheet (k + 1) ≡ next_line sheet (line_start sheet k)
@@ -34,10 +38,14 @@ line_within sheet s w h =
     let e = eqb-true (width_at sheet s) w p.0 in
     (within_from_byte sheet (s + w) 10 (eqb-true (get_or sheet (s + w) 0) 10 p.1) (omega arith), ap (λ (x : ℕ). s + x + 1) e)
 
--- no byte 10 stands where the line should end
-pub line_not_ended : (sheet : List ℕ) (s w : ℕ) → (get_or sheet (s + w) 0 ≡ 10 → ⊥) → has_width sheet s w ≡ false
-line_not_ended sheet s w ne = and_right (eqb (width_at sheet s) w) (eqb (get_or sheet (s + w) 0) 10) (ne_eqb (get_or sheet (s + w) 0) 10 ne)
+-- behind line k of w bytes stands the next
+pub next_is_line : (sheet : List ℕ) (k w : ℕ) (at next : Place) → IsLine sheet k at → Passed sheet at.offset w → next.offset ≡ at.offset + w + 1 → next.line ≡ min (at.line + 1) (2 ^ 64 - 1) → k + 2 < 2 ^ 64 → IsLine sheet (k + 1) next
+next_is_line sheet k w at next here passed offset line few = record {
+  offset = offset ∙ sym passed.next ∙ ap (next_line sheet) here.offset ∙ sym (line_start_more sheet k);
+  line = (let e = here.line in omega arith);
+}
 
--- the sheet ends where the line should end
-pub line_cut : (sheet : List ℕ) (s w : ℕ) → length sheet ≤ s + w → has_width sheet s w ≡ false
-line_cut sheet s w h = line_not_ended sheet s w (λ e. let z : get_or sheet (s + w) 0 ≡ 0 = get_or_past sheet (s + w) 0 h in omega arith)
+-- what is said of a line by its place is said of line k
+pub at_line : {bytes sheet : List ℕ} {k : ℕ} {at : Place} (P : List ℕ → ℕ → ℕ → Type 0) → bytes ≡ sheet → IsLine sheet k at → P bytes at.line at.offset → P sheet (k + 1) (line_start sheet k)
+at_line {bytes = bytes} {sheet = sheet} {k = k} {at = at} P same here h =
+    subst (λ s. P s (k + 1) (line_start sheet k)) same (subst (λ n. P bytes n (line_start sheet k)) here.line (subst (λ o. P bytes at.line o) here.offset h))

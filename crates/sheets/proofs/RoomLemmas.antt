@@ -7,49 +7,37 @@ use Rattle.sheets.specs.declared.fault.Wrong.TheVariants.{ListTooShort}
 use Rattle.sheets.specs.declared.parsed.Parsed.{Parsed}
 use Rattle.sheets.specs.Checks.{tell_if, first, whole_finding}
 use Rattle.sheets.specs.Lists.{Cleared, sides_of}
-use Rattle.sheets.specs.Parsing.{Found, Held, LeavesBy, ReadsAll, ReadsLists, TooShort, checks_for}
+use Rattle.sheets.specs.Parsing.{Found, Held, LeavesBy, ReadsAll, ReadsLists, ReadsRoom, checks_for}
 use Rattle.sheets.specs.Reading.{list_checks, sheet_checks}
 use Rattle.sheets.proofs.CheckLemmas.{first_front, first_rest}
 use Rattle.sheets.proofs.ListLemmas.{left_kept, left_cleared}
 
-too_short : (h : Held) (name : Sheet) → first (list_checks (length h.sides) (length h.codes) (length h.places)) ≡ Some (whole_finding ListTooShort name) → TooShort h (whole_finding ListTooShort name)
-too_short h name e sizes plan =
-    let f = whole_finding ListTooShort name in
-    let all = first_front (list_checks (length h.sides) (length h.codes) (length h.places)) (sheet_checks sizes plan) f e in
+pub short_told : (sizes plan : List ℕ) (h : Held) (f : Finding) → ReadsRoom (length h.sides) (length h.codes) (length h.places) (Err f) → ReadsLists sizes plan h h (Err f)
+short_told sizes plan h f room =
+    let all = first_front (list_checks (length h.sides) (length h.codes) (length h.places)) (sheet_checks sizes plan) f room.0 in
     record {
-      found = (all, omega arith);
+      found = (all, omega (arith, room.1));
       lists =
           subst (λ o. LeavesBy sizes plan o h h) (sym all)
-          (left_kept (sides_of 0 0) ListTooShort h.sides refl, left_kept 0 ListTooShort h.codes refl, left_kept 0 ListTooShort h.places refl);
+          (left_kept (sides_of 0 0) f.wrong h.sides room.2, left_kept 0 f.wrong h.codes room.2, left_kept 0 f.wrong h.places room.2);
     }
-
--- whichever of the two tests finds it
-short_by : (h : Held) (a b : Bool) (f : Finding)
-    → first (tell_if a (whole_finding ListTooShort Sizes) ∷ tell_if b (whole_finding ListTooShort Plan) ∷ []) ≡ first (list_checks (length h.sides) (length h.codes) (length h.places))
-    → Some f ≡ first (tell_if a (whole_finding ListTooShort Sizes) ∷ tell_if b (whole_finding ListTooShort Plan) ∷ []) → TooShort h f
-short_by h true b f same e = let g : whole_finding ListTooShort Sizes ≡ f = cc in subst (TooShort h) g (too_short h Sizes (sym same))
-short_by h false true f same e = let g : whole_finding ListTooShort Plan ≡ f = cc in subst (TooShort h) g (too_short h Plan (sym same))
-short_by h false false f same e = let z : ◌≡◌ {A = ℕ} 0 1 = cc in absurd (omega arith)
-
-pub short_told : (sizes plan : List ℕ) (h : Held) (f : Finding) → Some f ≡ first (list_checks (length h.sides) (length h.codes) (length h.places)) → ReadsLists sizes plan h h (Err f)
-short_told sizes plan h f e = short_by h (ltb (length h.sides) 64) (ltb (length h.codes) 4096 || ltb (length h.places) 64) f refl e sizes plan
 
 -- behind lists with room, the sheets decide: what was read of them
 pub room_read : (sizes plan : List ℕ) (before after : Held) (p : Parsed)
-    → None ≡ first (list_checks (length before.sides) (length before.codes) (length before.places)) → ReadsAll sizes plan after (Ok p)
+    → first (list_checks (length before.sides) (length before.codes) (length before.places)) ≡ None → ReadsAll sizes plan after (Ok p)
     → ReadsLists sizes plan before after (Ok p)
 room_read sizes plan before after p room done =
     let e : first (checks_for sizes plan before) ≡ None =
-    first_rest (list_checks (length before.sides) (length before.codes) (length before.places)) (sheet_checks sizes plan) (sym room) ∙ done.0 in
+    first_rest (list_checks (length before.sides) (length before.codes) (length before.places)) (sheet_checks sizes plan) room ∙ done.0 in
     record { found = (e, done.1); lists = subst (λ o. LeavesBy sizes plan o before after) (sym e) done.2 }
 
 -- or their fault, behind which the lists are cleared
 pub room_fault : (sizes plan : List ℕ) (before after : Held) (f : Finding)
-    → None ≡ first (list_checks (length before.sides) (length before.codes) (length before.places)) → Found sizes plan (sheet_checks sizes plan) f
+    → first (list_checks (length before.sides) (length before.codes) (length before.places)) ≡ None → Found sizes plan (sheet_checks sizes plan) f
     → Cleared (sides_of 0 0) after.sides → Cleared 0 after.codes → Cleared 0 after.places → ReadsLists sizes plan before after (Err f)
 room_fault sizes plan before after f room found sides codes places =
     let e : first (checks_for sizes plan before) ≡ Some f =
-    first_rest (list_checks (length before.sides) (length before.codes) (length before.places)) (sheet_checks sizes plan) (sym room) ∙ found.0 in
+    first_rest (list_checks (length before.sides) (length before.codes) (length before.places)) (sheet_checks sizes plan) room ∙ found.0 in
     record {
       found = (e, found.1);
       lists =

@@ -1,4 +1,5 @@
 -- What the contracts of this crate cite.
+pub mod AtLines
 pub mod Checks
 pub mod Faults
 pub mod Fields
@@ -8,5 +9,4 @@ pub mod Parsing
 pub mod Promises
 pub mod Reading
 pub mod Script
-pub mod Stages
 pub mod Words

@@ -1,5 +1,5 @@
 -- What parsing the two sheets answers and leaves in the caller's lists.
-use Rattle.std.specs.Prelude.{◌≡◌, ℕ, ◌+◌, ◌*◌, ◌≤◌, true, List, length, Some, None, Ok, Err, MatchBool, Option, Result}
+use Rattle.std.specs.Prelude.{◌≡◌, ℕ, ◌+◌, ◌*◌, ◌≤◌, true, false, List, length, Some, None, Ok, Err, MatchBool, Option, Result}
 use Rattle.std.specs.Borrow.{Bor}
 use Rattle.lengths.specs.declared.plain.Plain.{Plain}
 use Rattle.plans.specs.declared.measures.Sides.{Sides}
@@ -13,7 +13,8 @@ use Rattle.sheets.specs.Checks.{Check, first, StandsFirst, NoneApplies}
 use Rattle.sheets.specs.Faults.{clears}
 use Rattle.sheets.specs.Lines.{line_start, part}
 use Rattle.sheets.specs.Lists.{Filled, Cleared, sides_of, sides_read}
-use Rattle.sheets.specs.Reading.{modules_of, code_read, place_read, length_checks, sheet_checks, all_checks}
+use Rattle.sheets.specs.Promises.{Passes}
+use Rattle.sheets.specs.Reading.{modules_of, code_read, place_read, list_checks, length_checks, sheet_checks, all_checks}
 use Rattle.sheets.specs.Words.{head_word}
 
 -- of two things, that of the sheet that is named
@@ -99,9 +100,10 @@ pub record ReadsLists (sizes plan : List ℕ) (before after : Held) (r : Result 
   pub found : Finds sizes plan before r
   pub lists : Leaves sizes plan before after
 
--- a fault of the lists' room, which comes first and leaves the lists, whatever the sheets hold
-abbrev pub TooShort : Held → Finding → Type 0
-TooShort h f = (sizes plan : List ℕ) → ReadsLists sizes plan h h (Err f)
+-- the room of the lists: the first fault, which does not clear them, or none
+abbrev pub ReadsRoom : ℕ → ℕ → ℕ → Result (Unit {0}) Finding → Type 0
+ReadsRoom sides codes places (Ok x) = first (list_checks sides codes places) ≡ None
+ReadsRoom sides codes places (Err f) = (first (list_checks sides codes places) ≡ Some f) × (f.from + f.width ≡ 0) × (clears f.wrong ≡ false)
 
 -- a fault of the two sheets: the first of these checks that applies; its field lies in its sheet, and it clears the lists
 abbrev pub Found : List ℕ → List ℕ → List Check → Finding → Type 0
@@ -110,7 +112,7 @@ Found sizes plan cs f =
 
 -- the bytes of the two sheets: the first fault, or none
 abbrev pub ReadsLengths : List ℕ → List ℕ → Result (Unit {0}) Finding → Type 0
-ReadsLengths sizes plan (Ok x) = first (length_checks sizes plan) ≡ None
+ReadsLengths sizes plan (Ok x) = Passes (length_checks sizes plan)
 ReadsLengths sizes plan (Err f) = Found sizes plan (length_checks sizes plan) f
 
 -- reading into lists of zeros: the first fault, or what was read

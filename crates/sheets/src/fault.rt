@@ -3,6 +3,7 @@ ghost use Rattle.std.specs.Prelude.{◌≡◌, ◌+◌, ◌^◌, ◌<◌};
 ghost use Rattle.sheets.specs.Checks.{whole_finding, line_finding, field_finding};
 ghost use Rattle.sheets.specs.Faults.{number_of, layer_of, sheet_number};
 
+use crate::place::Place;
 use plans::{LoadRefusal, Refusal};
 
 // What is wrong.
@@ -41,7 +42,7 @@ pub enum Sheet {
     Plan,
 }
 
-// What is wrong and where: line and column count from 1 and are 0 where none is meant;
+// What is wrong and where: line and column count from 1, and 0 is printed where none is meant;
 // the field at fault is the part of the sheet at offset `from`, `width` bytes long.
 #[derive(Clone, Copy)]
 pub struct Finding {
@@ -108,7 +109,7 @@ impl Sheet {
 
 impl Finding {
     // A fault of a list or of a whole sheet.
-    pub(crate) fn whole(wrong: Wrong, sheet: Sheet) -> Finding
+    pub fn whole(wrong: Wrong, sheet: Sheet) -> Finding
         ensures { result ≡ whole_finding wrong sheet }
     {
         Finding {
@@ -135,24 +136,17 @@ impl Finding {
         }
     }
 
-    // A fault of the field that stands `offset` bytes into the line at `start`.
-    pub(crate) fn field(
-        wrong: Wrong,
-        sheet: Sheet,
-        line: usize,
-        start: usize,
-        offset: usize,
-        width: usize,
-    ) -> Finding
-        requires { start + offset + 1 < 2 ^ 64 }
-        ensures { result ≡ field_finding wrong sheet line start offset width }
+    // A fault of the field that stands `offset` bytes into the line at a place.
+    pub fn field(wrong: Wrong, sheet: Sheet, at: Place, offset: usize, width: usize) -> Finding
+        requires { at.offset + offset + 1 < 2 ^ 64 }
+        ensures { result ≡ field_finding wrong sheet at.line at.offset offset width }
     {
         Finding {
             wrong,
             sheet,
-            line,
+            line: at.line,
             column: offset + 1,
-            from: start + offset,
+            from: at.offset + offset,
             width,
         }
     }

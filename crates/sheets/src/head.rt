@@ -1,32 +1,31 @@
 // The head of the plan sheet.
-ghost use Rattle.std.specs.Prelude.{◌≡◌, ◌≤◌, length, Some};
+ghost use Rattle.std.specs.Prelude.{◌≡◌, ◌≤◌, Some};
 ghost use Rattle.sheets.specs.declared.fault.Sheet.TheVariants as sheets;
+ghost use Rattle.sheets.specs.AtLines.{IsLine};
 ghost use Rattle.sheets.specs.Lines.{part};
-ghost use Rattle.sheets.specs.Promises.{Passed, Reads};
+ghost use Rattle.sheets.specs.Promises.{Reads};
 ghost use Rattle.sheets.specs.Reading.{head_checks, modules_of};
 ghost use Rattle.sheets.specs.Words.{head_word};
 
 use crate::fault::{Finding, Sheet, Wrong};
-use crate::field::number_at;
-use crate::line::has_width;
+use crate::line::Line;
 use crate::parsed::Head;
-use crate::word::head_word;
+use crate::place::FIRST;
+use crate::word::read_word;
 
-// The head's word and number of modules.
-pub(crate) fn read_head(plan: &[u8]) -> Result<(Head, usize), Finding>
-    ensures { Reads sheets.Plan plan.now (head_checks plan.now) (λ h. (head_word (part plan.now 0 4) ≡ Some h.0) × (h.1 ≡ modules_of plan.now) × (h.1 ≤ 64) × Passed plan.now 0 8) result }
+// The head's word and number of modules, and the line behind it.
+pub(crate) fn read_head<'a>(plan: &'a [u8]) -> Result<(Head, usize, Line<'a>), Finding>
+    ensures { Reads sheets.Plan plan.now (head_checks plan.now) (λ h. (head_word (part plan.now 0 4) ≡ Some h.0) × (h.1 ≡ modules_of plan.now) × (h.1 ≤ 64) × (h.2.bytes ≡ plan.entry) × IsLine plan.now 1 h.2.at) result }
 {
-    if !has_width(plan, 0, 8) {
-        return Err(Finding::line(Sheet::Plan, 1));
-    }
-    let Some(head) = head_word(&plan[0..4]) else {
-        return Err(Finding::field(Wrong::UnknownWord, Sheet::Plan, 1, 0, 0, 4));
+    let line = Line {
+        bytes: plan,
+        at: FIRST,
     };
-    let Some(modules) = number_at(plan, 4, 4) else {
-        return Err(Finding::field(Wrong::BadField, Sheet::Plan, 1, 0, 4, 4));
-    };
+    line.check_width(Sheet::Plan, 8)?;
+    let head = read_word(line)?;
+    let modules = line.number(Sheet::Plan, 4, 4)?;
     if modules > 64 {
-        return Err(Finding::field(Wrong::OutOfRange, Sheet::Plan, 1, 0, 4, 4));
+        return Err(line.fault(Wrong::OutOfRange, Sheet::Plan, 4, 4));
     }
-    Ok((head, modules as usize))
+    Ok((head, modules as usize, line.next(8)))
 }

@@ -4,29 +4,31 @@ ghost use Rattle.sheets.specs.Parsing.{Tells, of_sheet};
 
 use crate::fault::{Fault, Finding, Sheet};
 
-// The fault that tells a finding, with its field as a part of the sheet.
-pub(crate) fn lend<'a>(sheet: &'a [u8], finding: Finding) -> Fault<'a>
-    requires { finding.from + finding.width ≤ length sheet.now }
-    ensures { Tells sheet.entry finding result }
-{
-    let from = finding.from;
-    let end = from + finding.width;
-    Fault {
-        wrong: finding.wrong,
-        sheet: finding.sheet,
-        line: finding.line,
-        column: finding.column,
-        field: &sheet[from..end],
+impl Finding {
+    // The fault that tells this, with its field as a part of the sheet.
+    pub fn lend<'a>(self, sheet: &'a [u8]) -> Fault<'a>
+        requires { self.from + self.width ≤ length sheet.now }
+        ensures { Tells sheet.entry self result }
+    {
+        let from = self.from;
+        let end = from + self.width;
+        Fault {
+            wrong: self.wrong,
+            sheet: self.sheet,
+            line: self.line,
+            column: self.column,
+            field: &sheet[from..end],
+        }
     }
-}
 
-// The same, of the sheet that the finding names.
-pub(crate) fn lend_from<'a>(sizes: &'a [u8], plan: &'a [u8], finding: Finding) -> Fault<'a>
-    requires { finding.from + finding.width ≤ length (of_sheet sizes.now plan.now finding.sheet) }
-    ensures { Tells (of_sheet sizes.entry plan.entry finding.sheet) finding result }
-{
-    match finding.sheet {
-        Sheet::Sizes => lend(sizes, finding),
-        Sheet::Plan => lend(plan, finding),
+    // The same, of the sheet that it names.
+    pub(crate) fn lend_from<'a>(self, sizes: &'a [u8], plan: &'a [u8]) -> Fault<'a>
+        requires { self.from + self.width ≤ length (of_sheet sizes.now plan.now self.sheet) }
+        ensures { Tells (of_sheet sizes.entry plan.entry self.sheet) self result }
+    {
+        match self.sheet {
+            Sheet::Sizes => self.lend(sizes),
+            Sheet::Plan => self.lend(plan),
+        }
     }
 }

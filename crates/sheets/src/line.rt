@@ -1,37 +1,121 @@
-// Lines of a sheet, by their offsets.
-ghost use Rattle.std.specs.Prelude.{◌≡◌, ◌+◌, ◌<◌, ◌≤◌, T, length};
-ghost use Rattle.sheets.specs.Lines.{goes_on, width_at, has_width};
+// Lines of a sheet.
+ghost use Rattle.std.specs.Prelude.{◌≡◌, ◌+◌, ◌-◌, ◌^◌, ◌<◌, ◌≤◌, ◌==◌, T, [], ◌∷◌, length, min, not, position, slice_index};
+ghost use Rattle.sheets.specs.Checks.{tell_if, field_finding, line_finding};
+ghost use Rattle.sheets.specs.Lines.{goes_on, has_width, part, width_at};
+ghost use Rattle.sheets.specs.Promises.{Passed, Reads};
+ghost use Rattle.sheets.specs.Reading.{bad_at, number_at};
+ghost use Rattle.sheets.specs.declared.fault.Wrong.TheVariants as wrongs;
 
-// How many bytes the line at `start` has before its byte 10.
-pub(crate) fn line_width(sheet: &[u8], start: usize) -> usize
-    requires { start ≤ length sheet.now }
-    ensures exact { result ≡ width_at sheet.now start }
-    ensures within { start + result ≤ length sheet.now }
+use crate::fault::{Finding, Sheet, Wrong};
+use crate::field::number;
+use crate::place::Place;
+
+// Where the first byte 10 stands.
+fn line_end(bytes: &[u8]) -> Option<usize>
+    ensures { result ≡ position (λ b. b == 10) bytes.now }
 {
-    for end in start..sheet.len() {
-        if sheet[end] == b'\n' {
-            return end - start;
+    bytes.iter().position(|b| *b == b'\n')
+}
+
+// A line: the bytes of its sheet, and where in them it starts.
+#[derive(Clone, Copy)]
+pub(crate) struct Line<'a> {
+    pub bytes: &'a [u8],
+    pub at: Place,
+    ghost starts: { at.offset ≤ length bytes.now },
+}
+
+impl<'a> Line<'a> {
+    // The line behind this one, which has `width` bytes; its number stays at the largest that there is.
+    pub fn next(self, width: usize) -> Line<'a>
+        requires { self.at.offset + width < length self.bytes.now }
+        ensures bytes { result.bytes ≡ self.entry.bytes }
+        ensures offset { result.at.offset ≡ self.entry.at.offset + width + 1 }
+        ensures line { result.at.line ≡ min (self.entry.at.line + 1) (2 ^ 64 - 1) }
+    {
+        Line {
+            bytes: self.bytes,
+            at: Place {
+                offset: self.at.offset + width + 1,
+                line: self.at.line.saturating_add(1),
+            },
         }
     }
-    sheet.len() - start
-}
 
-// Whether the line at `start` is there, has `width` bytes and ends in byte 10.
-pub(crate) fn has_width(sheet: &[u8], start: usize, width: usize) -> bool
-    requires { start ≤ length sheet.now }
-    ensures exact { result ≡ has_width sheet.now start width }
-    ensures within { T result → start + width < length sheet.now }
-{
-    if line_width(sheet, start) != width {
-        return false;
+    // Whether the sheet has a byte where the line starts.
+    pub fn goes_on(self) -> bool
+        ensures { result ≡ goes_on self.entry.bytes.now self.entry.at.offset }
+    {
+        self.at.offset < self.bytes.len()
     }
-    let end = start + width;
-    end < sheet.len() && sheet[end] == b'\n'
-}
 
-// Whether the sheet has a byte at `start`.
-pub(crate) fn goes_on(sheet: &[u8], start: usize) -> bool
-    ensures { result ≡ goes_on sheet.now start }
-{
-    start < sheet.len()
+    // How many bytes the line has before its byte 10.
+    pub fn width(self) -> usize
+        ensures exact { result ≡ width_at self.entry.bytes.now self.entry.at.offset }
+        ensures within { self.entry.at.offset + result ≤ length self.entry.bytes.now }
+    {
+        let rest = &self.bytes[self.at.offset..];
+        line_end(rest).unwrap_or(rest.len())
+    }
+
+    // Whether the line is there, has `width` bytes and ends in byte 10.
+    fn has_width(self, width: usize) -> bool
+        ensures exact { result ≡ has_width self.entry.bytes.now self.entry.at.offset width }
+        ensures within { T result → self.entry.at.offset + width < length self.entry.bytes.now }
+    {
+        self.width() == width && self.bytes.get(self.at.offset + width) == Some(&b'\n')
+    }
+
+    // The fault that the line is missing, surplus or of wrong length.
+    pub fn wrong_length(self, sheet: Sheet) -> Finding
+        ensures { result ≡ line_finding sheet self.entry.at.line }
+    {
+        Finding::line(sheet, self.at.line)
+    }
+
+    // That fault, if the line has not `width` bytes.
+    pub fn check_width(self, sheet: Sheet, width: usize) -> Result<(), Finding>
+        ensures { Reads sheet self.entry.bytes.now (tell_if (not (has_width self.entry.bytes.now self.entry.at.offset width)) (line_finding sheet self.entry.at.line) ∷ []) (λ _. Passed self.entry.bytes.now self.entry.at.offset width) result }
+    {
+        if !self.has_width(width) {
+            return Err(self.wrong_length(sheet));
+        }
+        Ok(())
+    }
+
+    // The byte that stands `offset` bytes into the line.
+    pub fn byte(self, offset: usize) -> u8
+        requires { self.at.offset + offset < length self.bytes.now }
+        ensures { result ≡ slice_index self.entry.bytes.now (self.entry.at.offset + offset) }
+    {
+        self.bytes[self.at.offset + offset]
+    }
+
+    // The field that stands `offset` bytes into the line.
+    pub fn field(self, offset: usize, width: usize) -> &'a [u8]
+        requires { self.at.offset + offset + width ≤ length self.bytes.now }
+        ensures { result.now ≡ part self.entry.bytes.now (self.entry.at.offset + offset) width }
+    {
+        let from = self.at.offset + offset;
+        &self.bytes[from..from + width]
+    }
+
+    // A fault of that field.
+    pub fn fault(self, wrong: Wrong, sheet: Sheet, offset: usize, width: usize) -> Finding
+        requires { self.at.offset + offset < length self.bytes.now }
+        ensures { result ≡ field_finding wrong sheet self.entry.at.line self.entry.at.offset offset width }
+    {
+        Finding::field(wrong, sheet, self.at, offset, width)
+    }
+
+    // The number in that field.
+    pub fn number(self, sheet: Sheet, offset: usize, width: usize) -> Result<u32, Finding>
+        requires within { self.at.offset + offset + width ≤ length self.bytes.now }
+        requires some { 0 < width }
+        requires few { width < 10 }
+        ensures { Reads sheet self.entry.bytes.now (tell_if (bad_at self.entry.bytes.now (self.entry.at.offset + offset) width) (field_finding wrongs.BadField sheet self.entry.at.line self.entry.at.offset offset width) ∷ []) (λ n. n ≡ number_at self.entry.bytes.now (self.entry.at.offset + offset) width) result }
+    {
+        let field = self.field(offset, width);
+        number(field).ok_or(self.fault(Wrong::BadField, sheet, offset, width))
+    }
 }

@@ -1,16 +1,12 @@
 // Parsing the two sheets into the caller's lists.
-ghost use Rattle.std.specs.Prelude.{◌≡◌, ◌≤◌, false, length, MatchOption};
-ghost use Rattle.sheets.specs.Checks.{first};
-ghost use Rattle.sheets.specs.Faults.{clears};
-ghost use Rattle.sheets.specs.Lists.{Cleared, sides_of};
-ghost use Rattle.sheets.specs.Parsing.{Answers, FirstOf, Leaves, ReadsAll, ReadsLengths, ReadsLists, held};
-ghost use Rattle.sheets.specs.Reading.{list_checks};
+ghost use Rattle.sheets.specs.Lists.{Ready, sides_of};
+ghost use Rattle.sheets.specs.Parsing.{Answers, FirstOf, Leaves, ReadsAll, ReadsLengths, ReadsLists, ReadsRoom, held};
 
 use crate::fault::{Fault, Finding, Sheet, Wrong};
 use crate::head::read_head;
-use crate::lending::lend_from;
+use crate::line::Line;
 use crate::parsed::Parsed;
-use crate::place::Place;
+use crate::place::FIRST;
 use crate::rows::read_rows;
 use crate::sequence::read_sequence;
 use crate::sizes::read_sizes;
@@ -23,17 +19,16 @@ const MOST_MODULES: usize = 64;
 const MOST_BYTES: usize = 32_768;
 
 // The fault of lists that have too little room.
-fn short_list(sides: usize, codes: usize, places: usize) -> Option<Finding>
-    ensures exact { result ≡ first (list_checks sides codes places) }
-    ensures kept { MatchOption result (⊥ → ⊥) (λ f. clears f.wrong ≡ false) }
+fn check_room(sides: usize, codes: usize, places: usize) -> Result<(), Finding>
+    ensures { ReadsRoom sides codes places result }
 {
     if sides < MOST_MODULES {
-        return Some(Finding::whole(Wrong::ListTooShort, Sheet::Sizes));
+        return Err(Finding::whole(Wrong::ListTooShort, Sheet::Sizes));
     }
     if codes < MOST_MODULES * MOST_MODULES || places < MOST_MODULES {
-        return Some(Finding::whole(Wrong::ListTooShort, Sheet::Plan));
+        return Err(Finding::whole(Wrong::ListTooShort, Sheet::Plan));
     }
-    None
+    Ok(())
 }
 
 // The fault of a sheet that is too long.
@@ -50,6 +45,7 @@ fn check_lengths(sizes: &[u8], plan: &[u8]) -> Result<(), Finding>
 }
 
 // Both sheets, read into lists of zeros.
+// The lists are no struct: each contract over one would have to say that it keeps their references.
 fn read_all(
     sizes: &[u8],
     plan: &[u8],
@@ -57,24 +53,24 @@ fn read_all(
     codes: &mut [u8],
     places: &mut [usize],
 ) -> Result<Parsed, Finding>
-    requires sides { (64 ≤ length sides.old) × (Cleared (sides_of 0 0) sides.old) }
-    requires codes { (4096 ≤ length codes.old) × (Cleared 0 codes.old) }
-    requires places { (64 ≤ length places.old) × (Cleared 0 places.old) }
+    requires sides { Ready 64 (sides_of 0 0) sides.old }
+    requires codes { Ready 4096 0 codes.old }
+    requires places { Ready 64 0 places.old }
     ensures { ReadsAll sizes.now plan.now (held sides.new codes.new places.new) result }
 {
     check_lengths(sizes, plan)?;
-    let (head, modules) = read_head(plan)?;
-    read_sizes(sizes, modules, sides)?;
-    let start = read_rows(plan, modules, codes)?;
-    read_sequence(plan, modules + 2, start, modules, places)?;
-    let script = Place {
-        offset: start + 4 * modules + 1,
-        line: modules + 3,
+    let (head, modules, second) = read_head(plan)?;
+    let first = Line {
+        bytes: sizes,
+        at: FIRST,
     };
+    read_sizes(first, &mut sides[..modules])?;
+    let last = read_rows(second, modules, &mut codes[..modules * modules])?;
+    read_sequence(last, &mut places[..modules])?;
     Ok(Parsed {
         head,
         modules,
-        script,
+        script: last.next(4 * modules).at,
     })
 }
 
@@ -90,17 +86,13 @@ fn read_lists(
 ) -> Result<Parsed, Finding>
     ensures { ReadsLists sizes.now plan.now (held sides.old codes.old places.old) (held sides.new codes.new places.new) result }
 {
-    if let Some(finding) = short_list(sides.len(), codes.len(), places.len()) {
-        return Err(finding);
-    }
+    check_room(sides.len(), codes.len(), places.len())?;
     clear_all(sides, codes, places);
-    match read_all(sizes, plan, sides, codes, places) {
-        Ok(parsed) => Ok(parsed),
-        Err(finding) => {
-            clear_all(sides, codes, places);
-            Err(finding)
-        }
+    let read = read_all(sizes, plan, sides, codes, places);
+    if read.is_err() {
+        clear_all(sides, codes, places);
     }
+    read
 }
 
 // Reads the sizes and the plan into the lists, and answers the head, the number of modules and
@@ -116,8 +108,5 @@ pub fn parse<'a>(
     ensures lists { Leaves sizes.now plan.now (held sides.old codes.old places.old) (held sides.new codes.new places.new) }
     ensures law { FirstOf sizes.entry plan.entry (held sides.old codes.old places.old) result }
 {
-    match read_lists(sizes, plan, sides, codes, places) {
-        Ok(parsed) => Ok(parsed),
-        Err(finding) => Err(lend_from(sizes, plan, finding)),
-    }
+    read_lists(sizes, plan, sides, codes, places).map_err(|finding| finding.lend_from(sizes, plan))
 }

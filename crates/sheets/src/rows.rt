@@ -1,56 +1,50 @@
 // The rows of the plan sheet: a letter for each two modules.
-ghost use Rattle.std.specs.Prelude.{◌≡◌, ℕ, ◌+◌, ◌*◌, ◌<◌, ◌≤◌, length};
-ghost use Rattle.sheets.specs.Lines.{line_start};
-ghost use Rattle.sheets.specs.Lists.{Cleared, Filled};
+ghost use Rattle.std.specs.Prelude.{◌≡◌, ◌+◌, ◌*◌, ◌<◌, ◌≤◌, length};
+ghost use Rattle.sheets.specs.AtLines.{IsLine};
+ghost use Rattle.sheets.specs.Lists.{Front};
 ghost use Rattle.sheets.specs.Promises.{Passed, Reads};
-ghost use Rattle.sheets.specs.Reading.{code_at, code_read, row_checks, rows_checks};
+ghost use Rattle.sheets.specs.Reading.{code_at, code_read, letter_checks, row_checks, rows_checks};
 ghost use Rattle.sheets.specs.declared.fault.Sheet.TheVariants as sheets;
 
 use crate::fault::{Finding, Sheet, Wrong};
-use crate::line::has_width;
+use crate::line::Line;
 use crate::word::code_of;
 
-// The letters of the line at `start`, written into the list from `base` on.
-fn read_row(
-    plan: &[u8],
-    line: usize,
-    start: usize,
-    modules: usize,
-    base: usize,
-    codes: &mut [u8],
-) -> Result<(), Finding>
-    requires starts { start ≤ length plan.now }
-    requires room { base + modules ≤ length codes.old }
-    requires here { (j : ℕ) → j < modules → code_read plan.now modules (base + j) ≡ code_at plan.now (start + j) }
-    requires before { Filled 0 (code_read plan.now modules) base codes.old }
-    ensures { Reads sheets.Plan plan.now (row_checks plan.now modules line start) (λ _. Filled 0 (code_read plan.now modules) (base + modules) codes.new × Passed plan.now start modules) result }
+// The code of letter `j` of a row.
+fn read_code(line: Line<'_>, j: usize) -> Result<u8, Finding>
+    requires { line.at.offset + j < length line.bytes.now }
+    ensures { Reads sheets.Plan line.entry.bytes.now (letter_checks line.entry.bytes.now line.entry.at.line line.entry.at.offset j) (λ code. code ≡ code_at line.entry.bytes.now (line.entry.at.offset + j)) result }
 {
-    if !has_width(plan, start, modules) {
-        return Err(Finding::line(Sheet::Plan, line));
-    }
-    for j in 0..modules {
-        let Some(code) = code_of(plan[start + j]) else {
-            return Err(Finding::field(Wrong::UnknownWord, Sheet::Plan, line, start, j, 1));
-        };
-        codes[base + j] = code;
+    code_of(line.byte(j)).ok_or(line.fault(Wrong::UnknownWord, Sheet::Plan, j, 1))
+}
+
+// The codes of a row, as many as are written.
+fn read_row(line: Line<'_>, codes: &mut [u8]) -> Result<(), Finding>
+    ensures { Reads sheets.Plan line.entry.bytes.now (row_checks line.entry.bytes.now (length codes.old) line.entry.at.line line.entry.at.offset) (λ _. Front 0 (λ j. code_at line.entry.bytes.now (line.entry.at.offset + j)) (length codes.old) codes.new × Passed line.entry.bytes.now line.entry.at.offset (length codes.old)) result }
+{
+    line.check_width(Sheet::Plan, codes.len())?;
+    for (j, code) in codes.iter_mut().enumerate() {
+        *code = read_code(line, j)?;
     }
     Ok(())
 }
 
-// All rows, written into a list of zeros; tells where the line behind them starts.
-pub(crate) fn read_rows(plan: &[u8], modules: usize, codes: &mut [u8]) -> Result<usize, Finding>
-    requires small { modules ≤ 64 }
-    requires room { 4096 ≤ length codes.old }
-    requires clear { Cleared 0 codes.old }
-    requires head { Passed plan.now 0 8 }
-    ensures { Reads sheets.Plan plan.now (rows_checks plan.now modules) (λ s. (s ≡ line_start plan.now (modules + 1)) × (s ≤ length plan.now) × Filled 0 (code_read plan.now modules) (modules * modules) codes.new) result }
+// All rows, from the second line on; tells the line behind them.
+pub(crate) fn read_rows<'a>(
+    second: Line<'a>,
+    modules: usize,
+    codes: &mut [u8],
+) -> Result<Line<'a>, Finding>
+    requires few { modules ≤ 64 }
+    requires room { modules * modules ≤ length codes.old }
+    requires second { IsLine second.bytes.now 1 second.at }
+    ensures { Reads sheets.Plan second.entry.bytes.now (rows_checks second.entry.bytes.now modules) (λ line. (line.bytes ≡ second.entry.bytes) × IsLine second.entry.bytes.now (modules + 1) line.at × Front 0 (code_read second.entry.bytes.now modules) (modules * modules) codes.new) result }
 {
-    let mut start = 9;
-    let mut base = 0;
+    let mut line = second;
+    // `chunks_exact_mut` takes no chunks of 0, and no proof learns what its chunks hold afterwards.
     for i in 0..modules {
-        read_row(plan, i + 2, start, modules, base, codes)?;
-        start += modules + 1;
-        base += modules;
+        read_row(line, &mut codes[i * modules..(i + 1) * modules])?;
+        line = line.next(modules);
     }
-    Ok(start)
+    Ok(line)
 }

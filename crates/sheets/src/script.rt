@@ -1,77 +1,57 @@
 // Reading one line of the script.
-ghost use Rattle.std.specs.Prelude.{◌≡◌, ◌+◌, ◌*◌, ◌<◌, ◌≤◌, length};
-ghost use Rattle.sheets.specs.Lines.{part};
+ghost use Rattle.std.specs.Prelude.{◌≡◌, ◌+◌, ◌*◌, ◌<◌, ◌++◌, length};
 ghost use Rattle.sheets.specs.Promises.{Reads};
-ghost use Rattle.sheets.specs.Script.{FirstOfLine, ReadsLine, line_read, operand_at, operand_checks, script_checks, script_word};
+ghost use Rattle.sheets.specs.Script.{FirstOfLine, ReadsLine, command_with, fields_behind, line_read, operand_at, operand_checks, script_checks};
 ghost use Rattle.sheets.specs.declared.fault.Sheet.TheVariants as sheets;
 
-use crate::command::{ScriptLine, Word};
-use crate::fault::{Fault, Finding, Sheet, Wrong};
-use crate::field::number_at;
-use crate::lending::lend;
-use crate::line::{goes_on, has_width, line_width};
+use crate::command::{Command, ScriptLine, Word};
+use crate::fault::{Fault, Finding, Sheet};
+use crate::line::Line;
 use crate::place::Place;
-use crate::word::{command_with, fields_behind, script_word};
+use crate::word::{fields_behind, read_word};
+use plans::Change;
 
-// The word at `start`.
-fn word_at(plan: &[u8], start: usize) -> Option<Word>
-    requires { start + 4 ≤ length plan.now }
-    ensures { result ≡ script_word (part plan.now start 4) }
+// Field `j` behind the word of a line.
+fn operand(line: Line<'_>, j: usize) -> Result<usize, Finding>
+    requires few { j < 2 }
+    requires within { line.at.offset + (4 + 4 * j) + 4 < length line.bytes.now }
+    ensures { Reads sheets.Plan line.entry.bytes.now (operand_checks line.entry.bytes.now line.entry.at.line line.entry.at.offset (j + 1) j) (λ n. n ≡ operand_at line.entry.bytes.now line.entry.at.offset (j + 1) j) result }
 {
-    script_word(&plan[start..start + 4])
+    let number = line.number(Sheet::Plan, 4 + 4 * j, 4)?;
+    Ok(number as usize)
 }
 
-// Field `j` behind the word at `start`, or 0 where the word has fewer fields.
-fn read_operand(
-    plan: &[u8],
-    line: usize,
-    start: usize,
-    count: usize,
-    j: usize,
-) -> Result<usize, Finding>
-    requires small { j < 2 }
-    requires within { start + (4 + 4 * count) < length plan.now }
-    ensures { Reads sheets.Plan plan.now (operand_checks plan.now line start count j) (λ n. n ≡ operand_at plan.now start count j) result }
+// The command of a line with that word, and with as many fields behind it as it should have.
+fn command_of(line: Line<'_>, word: Word) -> Result<Command, Finding>
+    requires { line.at.offset + (4 + 4 * fields_behind word) < length line.bytes.now }
+    ensures { Reads sheets.Plan line.entry.bytes.now (operand_checks line.entry.bytes.now line.entry.at.line line.entry.at.offset (fields_behind word) 0 ++ operand_checks line.entry.bytes.now line.entry.at.line line.entry.at.offset (fields_behind word) 1) (λ c. c ≡ command_with word (operand_at line.entry.bytes.now line.entry.at.offset (fields_behind word) 0) (operand_at line.entry.bytes.now line.entry.at.offset (fields_behind word) 1)) result }
 {
-    if j >= count {
-        return Ok(0);
-    }
-    let offset = 4 + 4 * j;
-    match number_at(plan, start + offset, 4) {
-        Some(number) => Ok(number as usize),
-        None => Err(Finding::field(Wrong::BadField, Sheet::Plan, line, start, offset, 4)),
-    }
+    Ok(match word {
+        Word::Turn => Command::Change(Change::Rotate(operand(line, 0)?)),
+        Word::Swap => Command::Change(Change::Swap(operand(line, 0)?, operand(line, 1)?)),
+        Word::Flip => Command::Change(Change::Reverse(operand(line, 0)?, operand(line, 1)?)),
+        Word::Move => Command::Change(Change::MoveEdge(operand(line, 0)?, operand(line, 1)?)),
+        Word::Keep => Command::Keep,
+        Word::Undo => Command::Undo,
+        Word::Pack => Command::Pack,
+    })
 }
 
-// The line at a place that lies in the sheet.
-fn read_line(plan: &[u8], at: Place) -> Result<ScriptLine, Finding>
-    requires { at.offset < length plan.now }
-    ensures { Reads sheets.Plan plan.now (script_checks plan.now at.line at.offset) (λ l. l ≡ line_read plan.now at) result }
+// The command of a line that is there, and the place of the next.
+fn read_line(line: Line<'_>) -> Result<ScriptLine, Finding>
+    requires { line.at.offset < length line.bytes.now }
+    ensures { Reads sheets.Plan line.entry.bytes.now (script_checks line.entry.bytes.now line.entry.at.line line.entry.at.offset) (λ l. l ≡ line_read line.entry.bytes.now line.entry.at) result }
 {
-    let Place {
-        offset: start,
-        line,
-    } = at;
-    if line_width(plan, start) < 4 {
-        return Err(Finding::line(Sheet::Plan, line));
+    if line.width() < 4 {
+        return Err(line.wrong_length(Sheet::Plan));
     }
-    let Some(word) = word_at(plan, start) else {
-        return Err(Finding::field(Wrong::UnknownWord, Sheet::Plan, line, start, 0, 4));
-    };
-    let count = fields_behind(word);
-    let width = 4 + 4 * count;
-    if !has_width(plan, start, width) {
-        return Err(Finding::line(Sheet::Plan, line));
-    }
-    let a = read_operand(plan, line, start, count, 0)?;
-    let b = read_operand(plan, line, start, count, 1)?;
-    let next = Place {
-        offset: start + width + 1,
-        line: line.saturating_add(1),
-    };
+    let word: Word = read_word(line)?;
+    let width = 4 + 4 * fields_behind(word);
+    line.check_width(Sheet::Plan, width)?;
+    let command = command_of(line, word)?;
     Ok(ScriptLine {
-        command: command_with(word, a, b),
-        next,
+        command,
+        next: line.next(width).at,
     })
 }
 
@@ -81,11 +61,9 @@ pub fn read_command<'a>(plan: &'a [u8], at: Place) -> Result<Option<ScriptLine>,
     ensures answer { ReadsLine plan.entry at result }
     ensures law { FirstOfLine plan.entry at result }
 {
-    if !goes_on(plan, at.offset) {
+    if at.offset >= plan.len() {
         return Ok(None);
     }
-    match read_line(plan, at) {
-        Ok(line) => Ok(Some(line)),
-        Err(finding) => Err(lend(plan, finding)),
-    }
+    let line = read_line(Line { bytes: plan, at }).map_err(|finding| finding.lend(plan))?;
+    Ok(Some(line))
 }

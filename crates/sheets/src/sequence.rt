@@ -1,36 +1,21 @@
 // The packing sequence: a line of the plan sheet with a field for each place.
-ghost use Rattle.std.specs.Prelude.{◌≡◌, ◌+◌, ◌*◌, ◌<◌, ◌≤◌, length};
-ghost use Rattle.sheets.specs.Lists.{Cleared, Filled};
+ghost use Rattle.std.specs.Prelude.{◌≡◌, ◌+◌, ◌*◌, ◌≤◌, length};
+ghost use Rattle.sheets.specs.Lists.{Front};
 ghost use Rattle.sheets.specs.Promises.{Passed, Reads};
 ghost use Rattle.sheets.specs.Reading.{number_at, sequence_checks};
 ghost use Rattle.sheets.specs.declared.fault.Sheet.TheVariants as sheets;
 
-use crate::fault::{Finding, Sheet, Wrong};
-use crate::field::number_at;
-use crate::line::has_width;
+use crate::fault::{Finding, Sheet};
+use crate::line::Line;
 
-// The fields of the line at `start`, written into a list of zeros.
-pub(crate) fn read_sequence(
-    plan: &[u8],
-    line: usize,
-    start: usize,
-    modules: usize,
-    places: &mut [usize],
-) -> Result<(), Finding>
-    requires starts { start ≤ length plan.now }
-    requires small { modules ≤ 64 }
-    requires room { 64 ≤ length places.old }
-    requires clear { Cleared 0 places.old }
-    ensures { Reads sheets.Plan plan.now (sequence_checks plan.now modules line start) (λ _. Filled 0 (λ k. number_at plan.now (start + 4 * k) 4) modules places.new × Passed plan.now start (4 * modules)) result }
+// The modules at the places of a line, as many as are written.
+pub(crate) fn read_sequence(line: Line<'_>, places: &mut [usize]) -> Result<(), Finding>
+    requires { length places.old ≤ 64 }
+    ensures { Reads sheets.Plan line.entry.bytes.now (sequence_checks line.entry.bytes.now (length places.old) line.entry.at.line line.entry.at.offset) (λ _. Front 0 (λ k. number_at line.entry.bytes.now (line.entry.at.offset + 4 * k) 4) (length places.old) places.new × Passed line.entry.bytes.now line.entry.at.offset (4 * length places.old)) result }
 {
-    if !has_width(plan, start, 4 * modules) {
-        return Err(Finding::line(Sheet::Plan, line));
-    }
-    for j in 0..modules {
-        let Some(module) = number_at(plan, start + 4 * j, 4) else {
-            return Err(Finding::field(Wrong::BadField, Sheet::Plan, line, start, 4 * j, 4));
-        };
-        places[j] = module as usize;
+    line.check_width(Sheet::Plan, 4 * places.len())?;
+    for (j, place) in places.iter_mut().enumerate() {
+        *place = line.number(Sheet::Plan, 4 * j, 4)? as usize;
     }
     Ok(())
 }

@@ -1,22 +1,62 @@
 // Words and letters of the plan sheet.
-ghost use Rattle.std.specs.Prelude.{◌≡◌, length};
-ghost use Rattle.sheets.specs.Script.{command_with, fields_behind, script_word};
+ghost use Rattle.std.specs.Prelude.{◌≡◌, ℕ, ◌+◌, ◌≤◌, List, [], ◌∷◌, is_some, length, not, Option, Some};
+ghost use Rattle.sheets.specs.declared.fault.Sheet.TheVariants as sheets;
+ghost use Rattle.sheets.specs.declared.fault.Wrong.TheVariants as wrongs;
+ghost use Rattle.sheets.specs.Checks.{tell_if, field_finding};
+ghost use Rattle.sheets.specs.Lines.{part};
+ghost use Rattle.sheets.specs.Promises.{Reads};
+ghost use Rattle.sheets.specs.Script.{fields_behind, script_word};
 ghost use Rattle.sheets.specs.Words.{head_word, letter_code};
 
-use crate::command::{Command, Word};
+use crate::command::Word;
+use crate::fault::{Finding, Sheet, Wrong};
+use crate::line::Line;
 use crate::parsed::Head;
-use plans::Change;
 
-// The head that four bytes name.
-pub(crate) fn head_word(word: &[u8]) -> Option<Head>
-    requires { length word.now ≡ 4 }
-    ensures { result ≡ head_word word.now }
-{
-    match word {
-        b"PLAN" => Some(Head::Plan),
-        b"SIDE" => Some(Head::Side),
-        _ => None,
+// What a word of four bytes stands for.
+pub(crate) trait Spelled: Copy {
+    ghost spelled: { List ℕ → Option Self };
+
+    fn spelled_by(word: &[u8]) -> Option<Self>
+        requires { length word.now ≡ 4 }
+        ensures { result ≡ spelled word.now };
+}
+
+impl Spelled for Head {
+    ghost spelled = { head_word };
+
+    fn spelled_by(word: &[u8]) -> Option<Head> {
+        match word {
+            b"PLAN" => Some(Head::Plan),
+            b"SIDE" => Some(Head::Side),
+            _ => None,
+        }
     }
+}
+
+impl Spelled for Word {
+    ghost spelled = { script_word };
+
+    fn spelled_by(word: &[u8]) -> Option<Word> {
+        match word {
+            b"TURN" => Some(Word::Turn),
+            b"SWAP" => Some(Word::Swap),
+            b"FLIP" => Some(Word::Flip),
+            b"MOVE" => Some(Word::Move),
+            b"KEEP" => Some(Word::Keep),
+            b"UNDO" => Some(Word::Undo),
+            b"PACK" => Some(Word::Pack),
+            _ => None,
+        }
+    }
+}
+
+// What the first word of a line of the plan sheet stands for.
+pub(crate) fn read_word<W: Spelled>(line: Line<'_>) -> Result<W, Finding>
+    requires { line.at.offset + 4 ≤ length line.bytes.now }
+    ensures { Reads sheets.Plan line.entry.bytes.now (tell_if (not (is_some (W.spelled (part line.entry.bytes.now line.entry.at.offset 4)))) (field_finding wrongs.UnknownWord sheets.Plan line.entry.at.line line.entry.at.offset 0 4) ∷ []) (λ w. W.spelled (part line.entry.bytes.now line.entry.at.offset 4) ≡ Some w) result }
+{
+    W::spelled_by(line.field(0, 4)).ok_or(line.fault(Wrong::UnknownWord, Sheet::Plan, 0, 4))
 }
 
 // The relation code that a letter stands for.
@@ -31,23 +71,6 @@ pub(crate) fn code_of(letter: u8) -> Option<u8>
     }
 }
 
-// The word of a script line that four bytes spell.
-pub(crate) fn script_word(word: &[u8]) -> Option<Word>
-    requires { length word.now ≡ 4 }
-    ensures { result ≡ script_word word.now }
-{
-    match word {
-        b"TURN" => Some(Word::Turn),
-        b"SWAP" => Some(Word::Swap),
-        b"FLIP" => Some(Word::Flip),
-        b"MOVE" => Some(Word::Move),
-        b"KEEP" => Some(Word::Keep),
-        b"UNDO" => Some(Word::Undo),
-        b"PACK" => Some(Word::Pack),
-        _ => None,
-    }
-}
-
 // How many fields stand behind a word.
 pub(crate) fn fields_behind(word: Word) -> usize
     ensures { result ≡ fields_behind word }
@@ -56,20 +79,5 @@ pub(crate) fn fields_behind(word: Word) -> usize
         Word::Turn => 1,
         Word::Swap | Word::Flip | Word::Move => 2,
         Word::Keep | Word::Undo | Word::Pack => 0,
-    }
-}
-
-// The command of a word with the numbers of its fields.
-pub(crate) fn command_with(word: Word, a: usize, b: usize) -> Command
-    ensures { result ≡ command_with word a b }
-{
-    match word {
-        Word::Turn => Command::Change(Change::Rotate(a)),
-        Word::Swap => Command::Change(Change::Swap(a, b)),
-        Word::Flip => Command::Change(Change::Reverse(a, b)),
-        Word::Move => Command::Change(Change::MoveEdge(a, b)),
-        Word::Keep => Command::Keep,
-        Word::Undo => Command::Undo,
-        Word::Pack => Command::Pack,
     }
 }

@@ -1,10 +1,11 @@
 -- A fault of parsing, a refused load, or what the plan sheet says.
-use Rattle.std.proofs.Common.{inl}
+use Rattle.std.proofs.Common.{◌≡◌, Ok, MatchResult, inl, rules}
 use Rattle.std.proofs.lemmas.Result.{err_from_is_err_and}
 use Rattle.sheets.specs.Checks.{first}
-use Rattle.sheets.specs.Parsing.{checks_for, held}
+use Rattle.sheets.specs.Parsing.{checks_for, held, Tells}
+use Rattle.reading.specs.PlanFaults.{plan_finding}
 use Rattle.reading.specs.Outcome.{load_fault}
-use Rattle.reading.proofs.AfterParsing.{Done, codes_end, places_end, placed, done_answered, done_means, done_law, refused_told, refused_answered, refused_means, refused_law}
+use Rattle.reading.proofs.AfterParsing.{Done, codes_end, places_end, placed, done_answered, done_means, done_law, refused_answered, refused_means, refused_law, told_if_refused, refusal_told}
 use Rattle.reading.proofs.Outcomes.{parse_fault, parse_fault_keeps}
 use Rattle.reading.proofs.whole.read.Given as given
 use Rattle.reading.proofs.whole.read.Goals as goal
@@ -39,31 +40,30 @@ after_parsing g c = record {
 pub load_front-requires : goal.load_front-requires
 load_front-requires g c =
     let d = after_parsing g (goal.at.load_front-requires g c).In_ok-parsed in
-    record { room = (codes_end d, places_end d) }
+    record { codes = codes_end d; places = places_end d }
 
-pub refused-requires : goal.refused-requires
-refused-requires g c =
-    let d = after_parsing g (goal.at.refused-requires g c).In_ok-parsed in
-    record { placed = placed d; inside = refused_told d _ _ c.in-Err.refusal c.in-Err.ensures }
+pub map_err-requires : goal.map_err-requires
+map_err-requires g c =
+    let d = after_parsing g (goal.at.map_err-requires g c).In_ok-parsed in
+    λ e was κs names args ranges u fits l. (placed d, told_if_refused d _ _ c.load_front.result c.load_front.ensures e was)
 
-pub returns-in-Ok : goal.returns-in-Ok
-returns-in-Ok g c =
-    let d = after_parsing g (goal.at.returns-in-Ok g c).In_ok-parsed in
+pub returns-in_err-map_err : goal.returns-in_err-map_err
+returns-in_err-map_err g c =
+    let d = after_parsing g (goal.at.returns-in_err-map_err g c).In_ok-parsed in
+    let p = err_from_is_err_and c.from_residual-in_err-map_err.result c.from_residual-in_err-map_err.ensures.1 in
+    let fault = c.in_err-map_err.field-0.0 in
+    let told : MatchResult c.load_front.result (λ x. ⊥) (λ e. Tells c.args.plan (plan_finding c.args.plan.now c.in_ok-parsed.parsed.modules e) fault) = search rules in
+    let w = refusal_told d _ _ fault c.load_front.result c.load_front.ensures told in
     record {
-      answer = done_answered d _ _ c.in-Ok.ensures;
+      answer = rw (p.1, p.2) (refused_answered d _ _ w.0 w.1 fault w.2);
       lists = d.left;
-      meaning = done_means d _ _ c.in-Ok.ensures;
-      law = done_law d _ _ c.in-Ok.ensures;
+      meaning = refused_means d _ _ w.0 w.1;
+      law = rw (p.1, p.2) (refused_law d _ _ w.0 w.1 fault w.2);
     }
 
-pub returns-in-Err-clause-answer : goal.returns-in-Err-clause-answer
-returns-in-Err-clause-answer g c =
-    refused_answered (after_parsing g (goal.at.returns-in-Err-clause-answer g c).In_ok-parsed) _ _ c.in-Err.refusal c.in-Err.ensures c.refused.result c.refused.ensures
-
-pub returns-in-Err-clause-meaning : goal.returns-in-Err-clause-meaning
-returns-in-Err-clause-meaning g c =
-    refused_means (after_parsing g (goal.at.returns-in-Err-clause-meaning g c).In_ok-parsed) _ _ c.in-Err.refusal c.in-Err.ensures
-
-pub returns-in-Err-clause-law : goal.returns-in-Err-clause-law
-returns-in-Err-clause-law g c =
-    refused_law (after_parsing g (goal.at.returns-in-Err-clause-law g c).In_ok-parsed) _ _ c.in-Err.refusal c.in-Err.ensures c.refused.result c.refused.ensures
+pub returns : goal.returns
+returns g c =
+    let d = after_parsing g (goal.at.returns g c).In_ok-parsed in
+    let ok : c.load_front.result ≡ Ok tt = search rules in
+    let loaded = rw ok at c.load_front.ensures in
+    record { answer = done_answered d _ _ loaded; lists = d.left; meaning = done_means d _ _ loaded; law = done_law d _ _ loaded }

@@ -1,16 +1,15 @@
 -- The rows passed had no fault, and their codes stand in the list.
-use Rattle.std.proofs.Common.{◌≡◌, ◌+◌, ◌-◌, ◌*◌, ◌≤◌, length}
-use Rattle.std.specs.List.{range_with_len, flat_map}
-use Rattle.sheets.specs.Checks.{first, each}
-use Rattle.sheets.specs.Lines.{line_start}
-use Rattle.sheets.specs.Lists.{Filled}
+use Rattle.std.proofs.Common.{◌≡◌, ℕ, ◌+◌, ◌*◌, ◌<◌}
+use Rattle.sheets.specs.AtLines.{IsLine}
+use Rattle.sheets.specs.Lists.{Front}
+use Rattle.sheets.specs.Promises.{Passes}
 use Rattle.sheets.specs.Reading.{code_read, module_row_checks}
 use Rattle.sheets.proofs.rows.read_rows.Given as goal
 
 abbrev pub invariant-loop-i : goal.invariant-loop-i
-invariant-loop-i l =
-    (first (flat_map (module_row_checks l.plan l.modules) (range_with_len l.i (l.modules - l.i))) ≡ first (each l.modules (module_row_checks l.plan l.modules)))
-    × (l.start ≡ line_start l.plan (l.i + 1))
-    × (l.start ≤ length l.plan)
-    × (l.base ≡ l.i * l.modules)
-    × Filled 0 (code_read l.plan l.modules) l.base l.codes
+invariant-loop-i l = record {
+  same : l.line.bytes ≡ l.fn.second.bytes;
+  at : IsLine l.fn.second.bytes.now (l.i + 1) l.line.at;
+  passed : (k : ℕ) → k < l.i → Passes (module_row_checks l.fn.second.bytes.now l.modules k);
+  read : Front 0 (code_read l.fn.second.bytes.now l.modules) (l.i * l.modules) l.codes;
+}

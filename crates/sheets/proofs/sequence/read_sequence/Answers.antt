@@ -1,40 +1,34 @@
 -- The fields of the sequence in turn, behind the length of its line.
-use Rattle.std.proofs.Common.{◌+◌, ◌*◌, ◌<◌, length, unwrap_or, refl, ap, ◌∙◌, arith}
-use Rattle.sheets.specs.declared.fault.Wrong.TheVariants.{BadField}
-use Rattle.sheets.specs.declared.fault.Sheet.TheVariants as sheets
-use Rattle.sheets.specs.Checks.{each, line_finding, field_finding}
-use Rattle.sheets.specs.Fields.{field_number}
-use Rattle.sheets.specs.Lines.{part}
+use Rattle.std.proofs.Common.{◌+◌, ◌*◌, length, arith, rules}
+use Rattle.std.proofs.lemmas.Result.{err_from_is_err_and}
 use Rattle.sheets.specs.Reading.{number_at, place_checks}
-use Rattle.sheets.proofs.CheckLemmas.{single_fault, single_none}
-use Rattle.sheets.proofs.ListLemmas.{filled_more}
-use Rattle.sheets.proofs.StageLemmas.{line_passed, loop-fault, loop-more}
+use Rattle.sheets.proofs.CheckLemmas.{fails_behind, passes_both}
+use Rattle.sheets.proofs.ListLemmas.{front_more}
+use Rattle.sheets.proofs.LoopLemmas.{each_passes, each_fails, passed_more}
 use Rattle.sheets.proofs.sequence.read_sequence.Goals as goal
 
-pub returns-in_default : goal.returns-in_default
-returns-in_default c =
-    let plan = c.args.plan.now in
+pub returns-in_err-place : goal.returns-in_err-place
+returns-in_err-place c =
+    let p = err_from_is_err_and c.from_residual-in_err-place.result c.from_residual-in_err-place.ensures.1 in
     let line = c.args.line in
-    let start = c.args.start in
-    let m = c.args.modules in
-    let j = c.loop-j.j in
-    let inside : start + 4 * m < length plan = c.if-not-has_width.ensures.within tt in
-    rw c.field.ensures (
-      line_passed plan start (4 * m) (line_finding sheets.Plan line) (each m (place_checks plan line start)) c.if-not-has_width.ensures.exact
-          ∙ loop-fault (place_checks plan line start) j m (field_finding BadField sheets.Plan line start (4 * j) 4) c.loop-j.invariant.0 c.loop-j-test.true
-          (single_fault (field_number (part plan (start + 4 * j) 4)) (field_finding BadField sheets.Plan line start (4 * j) 4) c.in_default.ensures),
-      (refl, omega arith, refl),
-    )
+    let loop = c.loop-j.invariant in
+    rw (p.1, p.2) (fails_behind c.in_ok-check_width.ensures.0
+    (each_fails (place_checks line.bytes.now line.at.line line.at.offset) _ c.loop-j.j c.loop-j-test.true loop.passed c.in_err-place.ensures))
 
 pub loop-j-preserved : goal.loop-j-preserved
 loop-j-preserved c =
-    let plan = c.args.plan.now in
     let line = c.args.line in
-    let start = c.args.start in
-    let m = c.args.modules in
-    let j = c.loop-j.j in
-    let in-room : j < length c.loop-j.places = omega (arith, c.requires.room, c.requires.small) in (
-      loop-more (place_checks plan line start) j m c.loop-j.invariant.0 c.loop-j-test.true
-          (single_none (field_number (part plan (start + 4 * j) 4)) c.in-Some.module (field_finding BadField sheets.Plan line start (4 * j) 4) c.in-Some.ensures),
-      filled_more 0 (λ k. number_at plan (start + 4 * k) 4) j c.loop-j.places c.in-Some.module in-room (ap (λ o. unwrap_or o 0) c.in-Some.ensures) c.loop-j.invariant.1,
-    )
+    let loop = c.loop-j.invariant in
+    let done = c.in_ok-place.ensures in
+    record {
+      passed = passed_more (place_checks line.bytes.now line.at.line line.at.offset) c.loop-j.j loop.passed done.0;
+      read = front_more 0 (λ k. number_at line.bytes.now (line.at.offset + 4 * k) 4) c.loop-j.j c.loop-j.places _ (omega arith) done.1 loop.read;
+    }
+
+pub returns : goal.returns
+returns c =
+    let line = c.args.line in
+    let loop = c.loop-j.invariant in
+    let width = c.in_ok-check_width.ensures in
+    let all = each_passes (place_checks line.bytes.now line.at.line line.at.offset) (length c.args.places.now) (λ k h. loop.passed k (omega arith)) in
+    (passes_both width.0 all, (λ k h. loop.read k (omega arith), width.1))
