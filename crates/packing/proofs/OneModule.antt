@@ -1,6 +1,6 @@
 -- One module is placed: its free and near edges, its record and its fit are those of the packing.
-use Rattle.std.proofs.Common.{◌≡◌, ℕ, ◌+◌, ◌<◌, ◌≤◌, Bool, true, false, not, ◌&&◌, ◌||◌, eqb, List, length, get_or, take, set, Some, None, Option, unwrap_or, sym, refl, ap, ◌∙◌, arith}
-use Rattle.std.proofs.lemmas.List.{get_or-take, get_or_read, length-take}
+use Rattle.std.proofs.Common.{◌≡◌, ℕ, ◌+◌, ◌<◌, ◌≤◌, Bool, true, false, not, ◌&&◌, ◌||◌, eqb, List, get_or, take, set, Some, None, Option, unwrap_or, sym, refl, ap, ◌∙◌, arith}
+use Rattle.std.proofs.lemmas.List.{get_or-take, length-take}
 use Rattle.std.proofs.lemmas.Bool.Decides.{nat_tests}
 use Rattle.lengths.specs.Sums.{SumWithin}
 use Rattle.plans.proofs.FlatAxes.{sums_within}
@@ -10,7 +10,7 @@ use Rattle.plans.proofs.SequenceWalk.{free_along, near_along}
 use Rattle.plans.specs.Axes.{free_edge, pushed}
 use Rattle.plans.specs.Kinds.{Kind, Lawful, JoinLaws, sum_limit}
 use Rattle.plans.specs.LaterOfTwo.{latest_onto}
-use Rattle.plans.specs.Packing.{Task, Pins, axis_of, far_of, packed_edge, packed_module, side_along, side_of}
+use Rattle.plans.specs.Packing.{Task, Pins, axis_of, far_of, packed_edge, packed_module, side_of}
 use Rattle.plans.specs.Tables.{Floorplan, Feasible, table_in, module_at}
 use Rattle.plans.specs.declared.measures.Placed.{Placed}
 use Rattle.plans.specs.declared.measures.Sides.{Sides}

@@ -1,5 +1,5 @@
 -- What the calls answer and leave, from what their parts do.
-use Rattle.std.proofs.Common.{◌≡◌, ℕ, ◌<◌, ◌≤◌, Bool, true, false, cond, not, ◌&&◌, ◌==◌, nat_lt, if◌then◌else◌, List, ◌++◌, map, length, take, drop, Some, None, Ok, Err, Option, Result, sym, refl, ap, ◌∙◌, subst, lt-ltb, arith}
+use Rattle.std.proofs.Common.{◌≡◌, ℕ, ◌<◌, ◌≤◌, Bool, true, false, cond, not, ◌&&◌, ◌==◌, nat_lt, if◌then◌else◌, List, ◌++◌, map, length, take, drop, None, Ok, Err, Option, Result, sym, refl, ap, ◌∙◌, subst, lt-ltb, arith}
 use Rattle.std.specs.List.{range_with_len}
 use Rattle.std.proofs.lemmas.List.FromFn.{length-map-range_with_len}
 use Rattle.std.proofs.lemmas.List.{drop_at}
@@ -8,7 +8,7 @@ use Rattle.plans.proofs.PackRefusals.{not_refused_packable, not_refused_pinned, 
 use Rattle.plans.proofs.PackingAnswers.{answered_not_refused, pack_answers, pinned_answers, rotated_answers}
 use Rattle.plans.proofs.PackingLaws.{rotated_law}
 use Rattle.plans.specs.Kinds.{Kind, Lawful}
-use Rattle.plans.specs.Packing.{Task, Pins, no_pins, rotated_once, packed_module, packed_chip, packed_list}
+use Rattle.plans.specs.Packing.{Task, Pins, no_pins, packed_module, packed_chip, packed_list}
 use Rattle.plans.specs.PackingCalls.{Outcome, pack_refusal, pin_refusal, rotation_refusal, no_place, refused_or, packed_outcome, after_pack, after_pack_pinned}
 use Rattle.plans.specs.PackingTheorems.{NearPins, rotated_task}
 use Rattle.plans.specs.Tables.{Floorplan, Feasible}

@@ -1,8 +1,8 @@
 -- How the packer goes along the packing sequence: free corners, near corners, and how far the list is filled.
-use Rattle.std.specs.Prelude.{◌≡◌, ℕ, ◌*◌, ◌<◌, ◌≤◌, Bool, true, cond, not, ◌&&◌, ◌||◌, ◌≢◌, List, length, get_or, take, ◌==◌, nat_eq, slice_index, slice_index_or, slice_set}
+use Rattle.std.specs.Prelude.{◌≡◌, ℕ, ◌<◌, ◌≤◌, Bool, cond, not, ◌||◌, ◌≢◌, List, length, get_or, take, ◌==◌, nat_eq, slice_index, slice_index_or, slice_set}
 use Rattle.std.specs.Option.{unwrap_or}
 use Rattle.lengths.specs.Sums.{SumWithin}
-use Rattle.plans.specs.Axes.{latest, pushed}
+use Rattle.plans.specs.Axes.{pushed}
 use Rattle.plans.specs.Kinds.{Kind}
 use Rattle.plans.specs.LaterOfTwo.{latest_onto}
 use Rattle.plans.specs.Packing.{Task, Pins, axis_of, packed_module, packed_list}
@@ -10,7 +10,6 @@ use Rattle.plans.specs.PackingCalls.{no_place}
 use Rattle.plans.specs.PackingTheorems.{Packable, NearPins}
 use Rattle.plans.specs.Tables.{Floorplan, table_in}
 use Rattle.plans.specs.declared.measures.Placed.{Placed}
-use Rattle.plans.specs.declared.measures.Chip.{Chip}
 use Rattle.plans.specs.declared.measures.Sides.{Sides}
 use Rattle.packing.specs.declared.pin.Corner.{Corner}
 

@@ -1,5 +1,5 @@
 // Packings with their numbers, the same in every kind of length.
-use crate::kinds::{Whole, blank_results, sides_of};
+use crate::kinds::Whole;
 use closure_graphs::ClosureGraphs;
 use lengths::Length;
 use module_set::ModuleSet;
@@ -61,22 +61,11 @@ fn unrotated<'a, L>(
     }
 }
 
-// The sides of the three modules: 4 by 2, 3 by 3, 5 by 1.
-fn three_sides<L: Whole>() -> [Sides<L>; 3] {
-    [sides_of(4, 2), sides_of(3, 3), sides_of(5, 1)]
-}
-
-// The longest sides for 64 modules.
-fn longest_sides<L: Whole>() -> [Sides<L>; 64] {
-    [sides_of(100_000, 100_000); 64]
-}
-
 // Three modules packed, and with the last one rotated once more.
-fn three<L: Whole>(results: &mut [Placed<L>]) -> bool {
-    let (plan, sides) = (two_under_one(), three_sides());
-    let job = unrotated(&plan, &sides);
-    is_chip(&job.pack(results), 7, 4, 28)
-        && is_chip(&job.pack_with_rotation(results, 2), 7, 8, 56)
+fn three<L: Whole>(sides: &[Sides<L>], results: &mut [Placed<L>]) -> bool {
+    let plan = two_under_one();
+    let job = unrotated(&plan, sides);
+    is_chip(&job.pack(results), 7, 4, 28) && is_chip(&job.pack_with_rotation(results, 2), 7, 8, 56)
 }
 
 // No modules.
@@ -95,28 +84,27 @@ fn pinned<L: Whole>(module: usize, across: u32) -> Pin<L> {
 }
 
 // Pinned with room, where it is anyway, and too near.
-fn pins<L: Whole>(results: &mut [Placed<L>]) -> bool {
-    let (plan, sides) = (two_under_one(), three_sides());
-    let job = unrotated(&plan, &sides);
+fn pins<L: Whole>(sides: &[Sides<L>], results: &mut [Placed<L>]) -> bool {
+    let plan = two_under_one();
+    let job = unrotated(&plan, sides);
     is_chip(&job.pack_pinned(results, pinned(1, 6)), 9, 4, 36)
         && is_chip(&job.pack_pinned(results, pinned(1, 4)), 7, 4, 28)
         && is_refused(&job.pack_pinned(results, pinned(1, 3)), 45)
 }
 
 // A row and a column of 64 modules with the longest sides.
-fn longest<L: Whole>(results: &mut [Placed<L>]) -> bool {
-    let sides = longest_sides();
+fn longest<L: Whole>(sides: &[Sides<L>], results: &mut [Placed<L>]) -> bool {
     let (row, column) = (line_of(Direction::Right), line_of(Direction::Above));
-    let across = unrotated(&row, &sides).pack(results);
-    let up = unrotated(&column, &sides).pack(results);
+    let across = unrotated(&row, sides).pack(results);
+    let up = unrotated(&column, sides).pack(results);
     is_chip(&across, 6_400_000, 100_000, 640_000_000_000)
         && is_chip(&up, 100_000, 6_400_000, 640_000_000_000)
 }
 
 // The first of the row pinned as far out as may be, with 63 modules behind it, and one farther.
-fn farthest<L: Whole>(results: &mut [Placed<L>]) -> bool {
-    let (row, sides) = (line_of(Direction::Right), longest_sides());
-    let job = unrotated(&row, &sides);
+fn farthest<L: Whole>(sides: &[Sides<L>], results: &mut [Placed<L>]) -> bool {
+    let row = line_of(Direction::Right);
+    let job = unrotated(&row, sides);
     is_chip(
         &job.pack_pinned(results, pinned(0, 3_600_000)),
         10_000_000,
@@ -125,12 +113,11 @@ fn farthest<L: Whole>(results: &mut [Placed<L>]) -> bool {
     ) && is_refused(&job.pack_pinned(results, pinned(0, 3_600_001)), 44)
 }
 
-// All examples in one kind of length.
-pub fn all_hold<L: Whole>() -> bool {
-    let mut results = blank_results::<L>();
-    none(&mut results)
-        && three(&mut results)
-        && pins(&mut results)
-        && longest(&mut results)
-        && farthest(&mut results)
+// All examples in one kind of length, by the sides of the three modules and by those of the 64.
+pub fn all_hold<L: Whole>(few: &[Sides<L>], many: &[Sides<L>], results: &mut [Placed<L>]) -> bool {
+    none(results)
+        && three(few, results)
+        && pins(few, results)
+        && longest(many, results)
+        && farthest(many, results)
 }

@@ -28,12 +28,12 @@ pub fn sides_of<L: Whole>(width: u32, height: u32) -> Sides<L> {
     }
 }
 
-// A list of results for 64 modules, all zero.
-pub fn blank_results<L: Length>() -> [Placed<L>; 64] {
-    [Placed {
+// A record of zeros, for the places of a list of results.
+pub fn blank<L: Length>() -> Placed<L> {
+    Placed {
         left: L::ZERO,
         bottom: L::ZERO,
         right: L::ZERO,
         top: L::ZERO,
-    }; 64]
+    }
 }

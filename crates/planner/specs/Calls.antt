@@ -1,5 +1,5 @@
 -- What each call of a plan promises: the state after it and its answer are the model's at the state before it.
-use Rattle.std.specs.Prelude.{◌≡◌, ℕ, List, Ok, Err, Result}
+use Rattle.std.specs.Prelude.{◌≡◌, ℕ, List, Result}
 use Rattle.std.specs.Result.{result_map_both}
 use Rattle.packing.specs.Calls.{Packs, PacksPinned}
 use Rattle.packing.specs.declared.pin.Pin.{Pin}

@@ -1,14 +1,20 @@
 -- The job of what is current is the task of the plan's state.
 use Rattle.std.proofs.Common.{refl, subst}
 use Rattle.packing.specs.Calls.{Packs, ShowsPacking}
+use Rattle.plans.specs.Model.{task_at}
+use Rattle.planner.specs.States.{state_of}
 use Rattle.planner.proofs.plan.Plan.pack.Goals as goal
 
 pub returns : goal.returns
 returns g c =
     let K = g.L.Length.kind in
-    let outcome = subst (λ t. Packs K t c.args.results.now c.pack.result c.pack.new.results) c.job.ensures c.pack.ensures.outcome in
+    let t = task_at (state_of g.R.Representation.means c.args.self.now) c.args.sides.now in
+    let before = c.args.results.now in
+    let after = c.pack.new.results in
+    let outcome : Packs K t before c.pack.result after =
+    subst (λ t. Packs K t before c.pack.result after) {y = t} c.job.ensures c.pack.ensures.outcome in
     record {
       outcome = outcome;
       plan = record { leaves = refl; gives = outcome };
-      least = subst (λ t. ShowsPacking K t c.args.results.now c.pack.result c.pack.new.results) c.job.ensures c.pack.ensures.least;
+      least = subst (λ t. ShowsPacking K t before c.pack.result after) {y = t} c.job.ensures c.pack.ensures.least;
     }
