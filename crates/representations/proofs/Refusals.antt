@@ -1,5 +1,5 @@
 -- What the tests of a change tell, passed one after another.
-use Rattle.std.proofs.Common.{◌≡◌, Bool, ℕ, Some, None, Option, Ok, Result, sym, refl}
+use Rattle.std.proofs.Common.{◌≡◌, Bool, ℕ, Some, None, Option, Ok, refl}
 use Rattle.plans.specs.Changes.{unless, bypassed, two_refusal, edge_refusal}
 use Rattle.plans.specs.Directions.{code_along}
 use Rattle.plans.specs.Search.{refusing}

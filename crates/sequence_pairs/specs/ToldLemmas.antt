@@ -1,6 +1,6 @@
 -- What a sequence pair means is feasible, and its codes are told by the places that it keeps.
 use Rattle.std.specs.Prelude.{◌≡◌, ℕ, ◌<◌, ◌≤◌, Bool, cond, ◌&&◌, List, length, take, Some, None, nat_lt, slice_index, refl}
-use Rattle.std.proofs.Common.{true, false, arith, sym, ap, subst, ◌∙◌, inl, inr}
+use Rattle.std.proofs.Common.{arith, sym, subst, ◌∙◌, inl, inr}
 use Rattle.std.proofs.lemmas.List.{length-take-le, get_or-take}
 use Rattle.std.proofs.lemmas.Bool.{cases_lt, lt-ltb, le-ltb}
 use Rattle.plans.proofs.PairLaw.{pair_law}
@@ -18,13 +18,6 @@ code_by_places m first second i j =
     cond (nat_lt i m && nat_lt j m)
     (cond (nat_lt (slice_index first i) (slice_index first j)) (cond (nat_lt (slice_index second i) (slice_index second j)) 1 2) 0)
     0
-
--- whether two modules stand so in two sequences, each asked within its count
-in_both :
-    (inside first second : Bool)
-    → ◌≡◌ {A = ℕ} (cond (inside && first) (cond (inside && second) 1 2) 0) (cond inside (cond first (cond second 1 2) 0) 0)
-in_both true first second = refl
-in_both false first second = refl
 
 module _ (x : SequencePair) where
   abbrev m : ℕ
@@ -81,17 +74,13 @@ module _ (x : SequencePair) where
         | inr h ↦ outside_told i j (λ w. omega (arith, w.0)) ∙ rw (le-ltb i m h) refl
       ]
 
-  -- the code of two modules, by whether each sequence has the first before the second
+  -- the code of two modules, from what comparing their places gives
   pub told_by :
-      (i j : ℕ) (first second : Bool)
-      → first ≡ (nat_lt i m && nat_lt j m && nat_lt (slice_index x.packing.places i) (slice_index x.packing.places j))
-      → second ≡ (nat_lt i x.other.count && nat_lt j x.other.count && nat_lt (slice_index x.other.places i) (slice_index x.other.places j))
+      (i j : ℕ) → i < m → j < m → (first second : Bool)
+      → first ≡ nat_lt (slice_index x.packing.places i) (slice_index x.packing.places j)
+      → second ≡ nat_lt (slice_index x.other.places i) (slice_index x.other.places j)
       → cond first (cond second 1 2) 0 ≡ table_in (meant x) i j
-  told_by i j first second e f =
-      let p = nat_lt (slice_index x.packing.places i) (slice_index x.packing.places j) in
-      let q = nat_lt (slice_index x.other.places i) (slice_index x.other.places j) in
-      let same : second ≡ (nat_lt i m && nat_lt j m && q) = f ∙ ap (λ n. nat_lt i n && nat_lt j n && q) x.same in
-      rw (e, same) (in_both (nat_lt i m && nat_lt j m) p q) ∙ sym (told i j)
+  told_by i j h k first second e f = rw (e, f) (sym (told i j ∙ rw (lt-ltb i m h, lt-ltb j m k) refl))
 
   -- the module at a place is the one that is kept there
   pub module_told : (k : ℕ) → cond (nat_lt k m) (Some (slice_index x.packing.modules k)) None ≡ module_at (meant x) k

@@ -1,42 +1,18 @@
 // Changes of a sequence pair, through the changed table.
 ghost use Rattle.std.specs.Prelude.{◌≡◌, ◌*◌, length};
-ghost use Rattle.plans.specs.Changes.{Follows, after_change, bypassed, change_refusal, edge_refusal, unless};
+ghost use Rattle.plans.specs.Changes.{Follows, after_change, change_refusal, unless};
+ghost use Rattle.plans.specs.Directions.{code_told};
 ghost use Rattle.plans.specs.Tables.{codes_of, table_in};
-ghost use Rattle.sequence_pairs.specs.Changing.{changed_table, lies_between};
+ghost use Rattle.sequence_pairs.specs.Changing.{changed_table};
 ghost use Rattle.sequence_pairs.specs.Meaning.{meant, PairChanged};
 
+use crate::edge::Edge;
 use crate::pair::SequencePair;
 use crate::table::Table;
-use plans::{Change, ChangeRefusal};
+use plans::{Change, ChangeRefusal, Direction, exchanged};
 use representations::{Representation, two_modules};
 
 impl SequencePair {
-    fn between(&self, a: usize, b: usize, k: usize) -> bool
-        ensures { result ≡ lies_between (table_in (meant self.now)) a b k }
-    {
-        let graph = self.direction(a, b);
-        self.direction(a, k) == graph && self.direction(k, b) == graph
-    }
-
-    // Whether some module lies between the ends of an edge, in its graph.
-    fn has_bypass(&self, a: usize, b: usize) -> bool
-        ensures { result ≡ bypassed (meant self.now).size (table_in (meant self.now)) a b }
-    {
-        (0..self.modules()).any(|k| self.between(a, b, k))
-    }
-
-    // That (a, b) is a reduction edge, or its first refusal.
-    fn check_edge(&self, a: usize, b: usize) -> Result<(), ChangeRefusal>
-        ensures { result ≡ unless (edge_refusal (meant self.now).size (table_in (meant self.now)) a b) tt }
-    {
-        two_modules(self.modules(), a, b)?;
-        self.direction(a, b).ok_or(ChangeRefusal::NoEdge)?;
-        if self.has_bypass(a, b) {
-            return Err(ChangeRefusal::NoReductionEdge);
-        }
-        Ok(())
-    }
-
     // The first refusal of a change.
     fn check(&self, change: Change) -> Result<(), ChangeRefusal>
         ensures { result ≡ unless (change_refusal (meant self.now) change) tt }
@@ -45,7 +21,20 @@ impl SequencePair {
             Change::Rotate(a) if a >= self.modules() => Err(ChangeRefusal::NoModule),
             Change::Rotate(_) => Ok(()),
             Change::Swap(a, b) => two_modules(self.modules(), a, b),
-            Change::Reverse(a, b) | Change::MoveEdge(a, b) => self.check_edge(a, b),
+            Change::Reverse(a, b) | Change::MoveEdge(a, b) => Edge::new(self, a, b).check(),
+        }
+    }
+
+    // The direction at (i, j) after a change that is not refused.
+    fn changed_direction(&self, change: Change, i: usize, j: usize) -> Option<Direction>
+        requires { change_refusal (meant self.now) change ≡ None }
+        ensures { code_told result ≡ changed_table (table_in (meant self.now)) change i j }
+    {
+        match change {
+            Change::Rotate(_) => self.direction(i, j),
+            Change::Swap(a, b) => self.direction(exchanged(a, b, i), exchanged(a, b, j)),
+            Change::Reverse(a, b) => Edge::new(self, a, b).reversed(i, j),
+            Change::MoveEdge(a, b) => Edge::new(self, a, b).moved(i, j),
         }
     }
 

@@ -2,7 +2,7 @@
 #![tactic(auto)]
 
 mod changing;
-mod directions;
+mod edge;
 mod loading;
 mod order;
 mod pair;

@@ -1,5 +1,5 @@
 // A sequence of modules with the place of each.
-ghost use Rattle.std.specs.Prelude.{◌≡◌, ◌≤◌, cond, ◌&&◌, length, nat_lt, slice_index};
+ghost use Rattle.std.specs.Prelude.{◌≡◌, ◌<◌, ◌≤◌, cond, length, nat_lt, slice_index};
 ghost use Rattle.sequence_pairs.specs.Keeping.{AtPlaces, Distinct};
 
 // Up to 64 modules, in the first places of a list, and the place of each of them.
@@ -51,10 +51,12 @@ impl Order {
         self.modules[..self.count].get(place).copied()
     }
 
-    // Whether i stands before j, which no module outside the sequence does.
+    // Whether i stands before j.
     pub(crate) fn precedes(&self, i: usize, j: usize) -> bool
-        ensures { result ≡ (nat_lt i self.now.count && nat_lt j self.now.count && nat_lt (slice_index self.now.places i) (slice_index self.now.places j)) }
+        requires first { i < self.now.count }
+        requires second { j < self.now.count }
+        ensures { result ≡ nat_lt (slice_index self.now.places i) (slice_index self.now.places j) }
     {
-        i < self.count && j < self.count && self.places[i] < self.places[j]
+        self.places[i] < self.places[j]
     }
 }

@@ -17,6 +17,10 @@ impl Representation for SequencePair {
     }
 
     fn direction(&self, i: usize, j: usize) -> Option<Direction> {
+        let count = self.packing.count;
+        if i >= count || j >= count {
+            return None;
+        }
         if !self.packing.precedes(i, j) {
             None
         } else if self.other.precedes(i, j) {

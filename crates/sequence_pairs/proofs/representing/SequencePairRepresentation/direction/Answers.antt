@@ -5,14 +5,15 @@ use Rattle.sequence_pairs.proofs.representing.SequencePairRepresentation.directi
 
 pub returns-then-not-precedes : goal.returns-then-not-precedes
 returns-then-not-precedes c =
-    told_by c.args.self.now c.args.i c.args.j false _ (sym c.if-not-precedes.true ∙ c.precedes.ensures) refl
+    told_by c.args.self.now c.args.i c.args.j c.if-i-count.false c.if-j-count.false false _
+    (sym c.if-not-precedes.true ∙ c.precedes.ensures) refl
 
 pub returns-then-precedes : goal.returns-then-precedes
 returns-then-precedes c =
-    told_by c.args.self.now c.args.i c.args.j true true (sym c.if-not-precedes.false ∙ c.precedes.ensures)
-    (sym c.if-precedes.true ∙ c.precedes-else-not-precedes.ensures)
+    told_by c.args.self.now c.args.i c.args.j c.if-i-count.false c.if-j-count.false true true
+    (sym c.if-not-precedes.false ∙ c.precedes.ensures) (sym c.if-precedes.true ∙ c.precedes-else-not-precedes.ensures)
 
 pub returns-else-precedes : goal.returns-else-precedes
 returns-else-precedes c =
-    told_by c.args.self.now c.args.i c.args.j true false (sym c.if-not-precedes.false ∙ c.precedes.ensures)
-    (sym c.if-precedes.false ∙ c.precedes-else-not-precedes.ensures)
+    told_by c.args.self.now c.args.i c.args.j c.if-i-count.false c.if-j-count.false true false
+    (sym c.if-not-precedes.false ∙ c.precedes.ensures) (sym c.if-precedes.false ∙ c.precedes-else-not-precedes.ensures)
