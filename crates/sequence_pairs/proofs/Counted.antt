@@ -10,8 +10,8 @@ use Rattle.plans.specs.Sequences.{count_before, ordered_by, fitting}
 use Rattle.plans.specs.Tables.{Table, Floorplan, Feasible, FeasibleTable, table_of}
 use Rattle.sequence_pairs.specs.Counting.{fitting_plan, stands_before}
 use Rattle.sequence_pairs.specs.Keeping.{AtPlaces, Distinct, pair_of}
-use Rattle.sequence_pairs.specs.declared.table.Which.{Which}
-use Rattle.sequence_pairs.specs.declared.table.Which.TheVariants.{Packing, Other}
+use Rattle.sequence_pairs.specs.declared.small_table.Which.{Which}
+use Rattle.sequence_pairs.specs.declared.small_table.Which.TheVariants.{Packing, Other}
 
 -- both sequences of a feasible table run along total orders
 pub stands_order : (m : ℕ) (c : Table) → FeasibleTable m c → (which : Which) → TotalOrder m (stands_before which c)

@@ -3,8 +3,8 @@ use Rattle.std.specs.Prelude.{ℕ, Bool, List}
 use Rattle.plans.specs.SequencePairs.{other_before}
 use Rattle.plans.specs.Sequences.{edge_to, fitting}
 use Rattle.plans.specs.Tables.{Table, Floorplan, table_of}
-use Rattle.sequence_pairs.specs.declared.table.Which.{Which}
-use Rattle.sequence_pairs.specs.declared.table.Which.TheVariants.{Packing, Other}
+use Rattle.sequence_pairs.specs.declared.small_table.Which.{Which}
+use Rattle.sequence_pairs.specs.declared.small_table.Which.TheVariants.{Packing, Other}
 
 -- i stands before j in one of the two sequences of a table
 abbrev pub stands_before : Which → Table → ℕ → ℕ → Bool

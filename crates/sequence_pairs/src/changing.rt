@@ -8,9 +8,10 @@ ghost use Rattle.sequence_pairs.specs.Meaning.{meant, PairChanged};
 
 use crate::edge::Edge;
 use crate::pair::SequencePair;
-use crate::table::Table;
+use crate::small_table::SmallTable;
 use plans::{Change, ChangeRefusal, Direction, exchanged};
 use representations::{Representation, two_modules};
+use table_tests::Table;
 
 impl SequencePair {
     // The first refusal of a change.
@@ -57,11 +58,12 @@ impl SequencePair {
         ensures { PairChanged (meant self.now) change result }
     {
         self.check(change)?;
-        let count = self.modules();
+        let modules = self.modules();
         let mut room = [0; 4096];
-        let codes = &mut room[..count * count];
+        let codes = &mut room[..modules * modules];
         self.write_changed(change, codes);
-        Ok(SequencePair::of_table(&Table { count, codes }))
+        let table = Table { modules, codes };
+        Ok(SequencePair::of_table(SmallTable { table }))
     }
 
     // Makes a change, or refuses it and stays.

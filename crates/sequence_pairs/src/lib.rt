@@ -7,6 +7,6 @@ mod loading;
 mod order;
 mod pair;
 mod representing;
-mod table;
+mod small_table;
 
 pub use pair::SequencePair;

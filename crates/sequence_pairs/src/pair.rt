@@ -2,7 +2,7 @@
 ghost use Rattle.std.specs.Prelude.{◌≡◌};
 
 use crate::order::Order;
-use crate::table::{Table, Which};
+use crate::small_table::{SmallTable, Which};
 
 // The packing sequence and the other one, in which a module precedes those right of it and those
 // below it, of up to 64 modules.
@@ -29,13 +29,13 @@ impl SequencePair {
     }
 
     // The pair of a feasible table.
-    pub(crate) fn of_table(table: &Table) -> SequencePair
-        requires { FeasibleTable table.now.count (table_of table.now.count table.now.codes.now) }
-        ensures { meant result ≡ fitting_plan table.now.count table.now.codes.now }
+    pub(crate) fn of_table(small: SmallTable<'_>) -> SequencePair
+        requires { FeasibleTable small.table.modules (table_of small.table.modules small.table.codes.now) }
+        ensures { meant result ≡ fitting_plan small.entry.table.modules small.entry.table.codes.now }
     {
         SequencePair {
-            packing: table.order(Which::Packing),
-            other: table.order(Which::Other),
+            packing: small.order(Which::Packing),
+            other: small.order(Which::Other),
         }
     }
 }

@@ -11,4 +11,5 @@ mod tested;
 
 pub use build::TwoGraphs;
 pub use codes::check_codes;
+pub use table::Table;
 pub use tested::tested_graphs;

@@ -13,7 +13,7 @@ of_table-requires c =
     let x = c.args.self.now in
     let codes = c.write_changed.new.codes in
     let none = passed (change_refusal (meant x) c.args.change) _ _ c.in_ok-check.ensures in
-    subst (λ n. FeasibleTable n (table_of n codes)) (sym c.modules-count.ensures)
+    subst (λ n. FeasibleTable n (table_of n codes)) (sym c.modules-modules.ensures)
     (accepted x c.args.change none codes c.write_changed.ensures).table
 
 pub returns : goal.returns
@@ -22,6 +22,6 @@ returns c =
     let codes = c.write_changed.new.codes in
     let none = passed (change_refusal (meant x) c.args.change) _ _ c.in_ok-check.ensures in (
       none,
-      c.of_table.ensures ∙ ap (λ n. fitting_plan n codes) c.modules-count.ensures
+      c.of_table.ensures ∙ ap (λ n. fitting_plan n codes) c.modules-modules.ensures
           ∙ (accepted x c.args.change none codes c.write_changed.ensures).plan,
     )

@@ -3,8 +3,8 @@ use Rattle.std.proofs.Common.{◌≡◌, ℕ, ◌<◌, get_or}
 use Rattle.plans.specs.Sequences.{count_before}
 use Rattle.plans.specs.Tables.{table_of}
 use Rattle.sequence_pairs.specs.Counting.{stands_before}
-use Rattle.sequence_pairs.proofs.table.Table.order.Given as goal
+use Rattle.sequence_pairs.proofs.small_table.SmallTable.order.Given as goal
 
 abbrev pub invariant-loop-j : goal.invariant-loop-j
 invariant-loop-j l =
-    (x : ℕ) → x < l.j → get_or l.place-items x 0 ≡ count_before l.self.count (stands_before l.which (table_of l.self.count l.self.codes.now)) x
+    (x : ℕ) → x < l.j → get_or l.place-items x 0 ≡ count_before l.self.table.modules (stands_before l.which (table_of l.self.table.modules l.self.table.codes.now)) x

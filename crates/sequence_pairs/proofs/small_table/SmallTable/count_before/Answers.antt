@@ -8,13 +8,13 @@ use Rattle.std.specs.List.{range_with_len}
 use Rattle.plans.specs.Tables.{table_of}
 use Rattle.sequence_pairs.proofs.Ranges.{count_by_below}
 use Rattle.sequence_pairs.specs.Counting.{stands_before}
-use Rattle.sequence_pairs.proofs.table.Table.count_before.Goals as goal
+use Rattle.sequence_pairs.proofs.small_table.SmallTable.count_before.Goals as goal
 
 pub returns : goal.returns
 returns c =
     let t = c.args.self.now in
-    let before : ℕ → Bool = λ i. stands_before c.args.which (table_of t.count t.codes.now) i c.args.j in
+    let before : ℕ → Bool = λ i. stands_before c.args.which (table_of t.table.modules t.table.codes.now) i c.args.j in
     count_from_yields_List c.filter.result _ c.count.ensures.ran
-    (YieldsList-from_filter _ before (YieldsList-from_range 0 t.count _ c.filter.ensures.source (omega arith)) c.filter.ensures.closure
+    (YieldsList-from_filter _ before (YieldsList-from_range 0 t.table.modules _ c.filter.ensures.source (omega arith)) c.filter.ensures.closure
     (λ x r q k. search (rules, tests)))
-    ∙ length-filter before (range_with_len 0 t.count) ∙ count_by_below t.count before
+    ∙ length-filter before (range_with_len 0 t.table.modules) ∙ count_by_below t.table.modules before
