@@ -1,11 +1,11 @@
 -- Lemmas on lines: their width one byte on and at their end, and that a line lies in its sheet.
-use Rattle.std.proofs.Common.{subst, min, ◌^◌, ◌-◌, take, drop, not, ◌≡◌, ℕ, position, unwrap_or, refl, sym, ◌+◌, ◌<◌, ◌≤◌, true, false, eqb, List, length, get_or, ap, ◌∙◌, inl, inr, add-one, arith}
-use Rattle.std.proofs.lemmas.List.{take_all, length-drop, at_drop_more, at_drop_all, get_or_past}
+use Rattle.std.proofs.Common.{subst, min, ◌^◌, ◌-◌, take, drop, not, ◌≡◌, ℕ, position, unwrap_or, refl, sym, ◌+◌, ◌<◌, ◌≤◌, true, eqb, List, length, get_or, ap, ◌∙◌, inl, inr, add-one, arith}
+use Rattle.std.proofs.lemmas.List.{take_all, length-drop, get_or_past}
 use Rattle.std.specs.List.{position_or_len}
 use Rattle.std.proofs.lemmas.List.Recursion.{is_position_or_len}
 use Rattle.std.proofs.lemmas.List.Sums.{prefix_len-le-length}
 use Rattle.std.proofs.lemmas.Bool.Decides.{nat_tests}
-use Rattle.std.proofs.lemmas.Bool.{cases_lt, cond-true, cond-false, eq-eqb, ne_eqb, eqb-true, and_parts, and_right}
+use Rattle.std.proofs.lemmas.Bool.{cases_lt, eqb-true, and_parts}
 use Rattle.sheets.specs.declared.place.Place.{Place}
 use Rattle.sheets.specs.AtLines.{IsLine}
 use Rattle.sheets.specs.Promises.{Passed}

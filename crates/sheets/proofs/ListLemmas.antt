@@ -1,8 +1,8 @@
 -- Lemmas on the caller's lists: one is filled one place further, and the places of a row of codes.
-use Rattle.std.proofs.Common.{take, drop, ◌++◌, ◌-◌, inl, inr, ◌≡◌, ℕ, ◌+◌, ◌*◌, ◌/◌, ◌%◌, ◌<◌, ◌≤◌, Bool, true, false, cond, ltb, ◌≢◌, List, length, get_or, set, MatchBool, sym, refl, ap, ◌∙◌, subst, ap₂, ⊎_elim, add-mul, one-mul, arith}
+use Rattle.std.proofs.Common.{take, drop, ◌++◌, ◌-◌, inl, inr, ◌≡◌, ℕ, ◌+◌, ◌*◌, ◌/◌, ◌%◌, ◌<◌, ◌≤◌, Bool, true, false, ltb, List, length, get_or, set, MatchBool, sym, refl, ap, ◌∙◌, subst, ap₂, add-mul, one-mul, arith}
 use borrow.Rule.Slice.PartMut.{put_mid}
 use borrow.Author.Count.{below_more}
-use Rattle.std.proofs.lemmas.Nat.{mul-le, div-mul-add, mod-mul-add}
+use Rattle.std.proofs.lemmas.Nat.{div-mul-add, mod-mul-add}
 use Rattle.sheets.specs.declared.fault.Wrong.{Wrong}
 use Rattle.sheets.specs.Faults.{clears}
 use Rattle.sheets.specs.Lines.{line_start}
@@ -10,7 +10,7 @@ use Rattle.sheets.specs.Parsing.{Left}
 use Rattle.sheets.specs.Reading.{code_at, code_read}
 use Rattle.std.proofs.lemmas.Slice.{take-put_mid}
 use Rattle.std.proofs.lemmas.List.{get_or-drop, get_or-set_same, get_or-set_other, get_or-take, length-take-le, get_or_append_left, get_or-append_right}
-use Rattle.std.proofs.lemmas.Bool.{cases_eq, cases_lt, cond-true, cond-false, lt-ltb, le-ltb}
+use Rattle.std.proofs.lemmas.Bool.{cases_lt, cond-true, cond-false, lt-ltb, le-ltb}
 use Rattle.sheets.specs.Lists.{Filled, Cleared, Front}
 
 -- one row more

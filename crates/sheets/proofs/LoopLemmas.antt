@@ -1,8 +1,8 @@
 -- Lemmas on the checks for 0, for 1 and so on, of which a loop has passed the first.
-use Rattle.std.proofs.Common.{refl, ◌≡◌, ℕ, zero, suc, ◌+◌, ◌<◌, List, ◌++◌, Some, None, ap, ◌∙◌, sym, subst, arith}
+use Rattle.std.proofs.Common.{refl, ℕ, zero, suc, ◌+◌, ◌<◌, List, subst, arith}
 use borrow.Author.Count.{below_more}
 use Rattle.std.specs.List.{range_with_len, flat_map}
-use Rattle.sheets.specs.Checks.{Check, each, first}
+use Rattle.sheets.specs.Checks.{Check, each}
 use Rattle.sheets.specs.Promises.{Fails, Passes}
 use Rattle.sheets.specs.declared.fault.Finding.{Finding}
 use Rattle.sheets.specs.declared.fault.Sheet.{Sheet}

@@ -1,11 +1,8 @@
 -- A fault of the lists' room is the first of all, and leaves the lists; behind it the sheets decide.
-use Rattle.std.proofs.Common.{◌≡◌, ℕ, Bool, true, false, ◌||◌, ltb, List, [], ◌∷◌, length, Some, None, Ok, Err, sym, refl, ◌∙◌, subst, arith}
+use Rattle.std.proofs.Common.{◌≡◌, ℕ, List, length, Some, None, Ok, Err, sym, ◌∙◌, subst, arith}
 use Rattle.sheets.specs.declared.fault.Finding.{Finding}
-use Rattle.sheets.specs.declared.fault.Sheet.{Sheet}
-use Rattle.sheets.specs.declared.fault.Sheet.TheVariants.{Sizes, Plan}
-use Rattle.sheets.specs.declared.fault.Wrong.TheVariants.{ListTooShort}
 use Rattle.sheets.specs.declared.parsed.Parsed.{Parsed}
-use Rattle.sheets.specs.Checks.{tell_if, first, whole_finding}
+use Rattle.sheets.specs.Checks.{first}
 use Rattle.sheets.specs.Lists.{Cleared, sides_of}
 use Rattle.sheets.specs.Parsing.{Found, Held, LeavesBy, ReadsAll, ReadsLists, ReadsRoom, checks_for}
 use Rattle.sheets.specs.Reading.{list_checks, sheet_checks}

@@ -7,7 +7,7 @@ use Rattle.sheets.specs.declared.fault.Finding.{Finding}
 use Rattle.sheets.specs.Checks.{first, StandsFirst, NoneApplies}
 use Rattle.sheets.specs.Lines.{goes_on}
 use Rattle.sheets.specs.Parsing.{Tells}
-use Rattle.sheets.specs.Script.{ByFirst, FirstOfLine, ReadsLine, line_read, script_checks}
+use Rattle.sheets.specs.Script.{ByFirst, FirstOfLine, ReadsLine, script_checks}
 use Rattle.sheets.proofs.CheckLemmas.{stands_first, none_applies}
 
 module _ (plan : Bor (List ℕ)) (at : Place) where

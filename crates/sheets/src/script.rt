@@ -21,6 +21,14 @@ fn operand(line: Line<'_>, j: usize) -> Result<usize, Finding>
     Ok(number as usize)
 }
 
+// The two fields behind the word of a line.
+fn operands(line: Line<'_>) -> Result<(usize, usize), Finding>
+    requires { line.at.offset + 12 < length line.bytes.now }
+    ensures { Reads sheets.Plan line.entry.bytes.now (operand_checks line.entry.bytes.now line.entry.at.line line.entry.at.offset 2 0 ++ operand_checks line.entry.bytes.now line.entry.at.line line.entry.at.offset 2 1) (λ p. (p.0 ≡ operand_at line.entry.bytes.now line.entry.at.offset 2 0) × (p.1 ≡ operand_at line.entry.bytes.now line.entry.at.offset 2 1)) result }
+{
+    Ok((operand(line, 0)?, operand(line, 1)?))
+}
+
 // The command of a line with that word, and with as many fields behind it as it should have.
 fn command_of(line: Line<'_>, word: Word) -> Result<Command, Finding>
     requires { line.at.offset + (4 + 4 * fields_behind word) < length line.bytes.now }
@@ -28,9 +36,18 @@ fn command_of(line: Line<'_>, word: Word) -> Result<Command, Finding>
 {
     Ok(match word {
         Word::Turn => Command::Change(Change::Rotate(operand(line, 0)?)),
-        Word::Swap => Command::Change(Change::Swap(operand(line, 0)?, operand(line, 1)?)),
-        Word::Flip => Command::Change(Change::Reverse(operand(line, 0)?, operand(line, 1)?)),
-        Word::Move => Command::Change(Change::MoveEdge(operand(line, 0)?, operand(line, 1)?)),
+        Word::Swap => {
+            let (a, b) = operands(line)?;
+            Command::Change(Change::Swap(a, b))
+        }
+        Word::Flip => {
+            let (a, b) = operands(line)?;
+            Command::Change(Change::Reverse(a, b))
+        }
+        Word::Move => {
+            let (a, b) = operands(line)?;
+            Command::Change(Change::MoveEdge(a, b))
+        }
         Word::Keep => Command::Keep,
         Word::Undo => Command::Undo,
         Word::Pack => Command::Pack,

@@ -37,23 +37,23 @@ after_parsing g c = record {
   places_kept = c.parse.auto.places;
 }
 
-pub load_front-requires : goal.load_front-requires
-load_front-requires g c =
-    let d = after_parsing g (goal.at.load_front-requires g c).In_ok-parsed in
+pub load_front-loaded-requires : goal.load_front-loaded-requires
+load_front-loaded-requires g c =
+    let d = after_parsing g (goal.at.load_front-loaded-requires g c).In_ok-parsed in
     record { codes = codes_end d; places = places_end d }
 
 pub map_err-requires : goal.map_err-requires
 map_err-requires g c =
     let d = after_parsing g (goal.at.map_err-requires g c).In_ok-parsed in
-    λ e was κs names args ranges u fits l. (placed d, told_if_refused d _ _ c.load_front.result c.load_front.ensures e was)
+    λ e was κs names args ranges u fits l. (placed d, told_if_refused d _ _ c.load_front-loaded.result c.load_front-loaded.ensures e was)
 
 pub returns-in_err-map_err : goal.returns-in_err-map_err
 returns-in_err-map_err g c =
     let d = after_parsing g (goal.at.returns-in_err-map_err g c).In_ok-parsed in
     let p = err_from_is_err_and c.from_residual-in_err-map_err.result c.from_residual-in_err-map_err.ensures.1 in
     let fault = c.in_err-map_err.field-0.0 in
-    let told : MatchResult c.load_front.result (λ x. ⊥) (λ e. Tells c.args.plan (plan_finding c.args.plan.now c.in_ok-parsed.parsed.modules e) fault) = search rules in
-    let w = refusal_told d _ _ fault c.load_front.result c.load_front.ensures told in
+    let told : MatchResult c.load_front-loaded.result (λ x. ⊥) (λ e. Tells c.args.plan (plan_finding c.args.plan.now c.in_ok-parsed.parsed.modules e) fault) = search rules in
+    let w = refusal_told d _ _ fault c.load_front-loaded.result c.load_front-loaded.ensures told in
     record {
       answer = rw (p.1, p.2) (refused_answered d _ _ w.0 w.1 fault w.2);
       lists = d.left;
@@ -64,6 +64,6 @@ returns-in_err-map_err g c =
 pub returns : goal.returns
 returns g c =
     let d = after_parsing g (goal.at.returns g c).In_ok-parsed in
-    let ok : c.load_front.result ≡ Ok tt = search rules in
-    let loaded = rw ok at c.load_front.ensures in
+    let ok : c.load_front-loaded.result ≡ Ok tt = search rules in
+    let loaded = rw ok at c.load_front-loaded.ensures in
     record { answer = done_answered d _ _ loaded; lists = d.left; meaning = done_means d _ _ loaded; law = done_law d _ _ loaded }

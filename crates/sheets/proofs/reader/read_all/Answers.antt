@@ -17,7 +17,7 @@ use Rattle.sheets.specs.Reading.{code_read, last_checks, modules_of, number_at, 
 use Rattle.sheets.proofs.CheckLemmas.{fails_front, fails_behind, passes_both}
 use Rattle.sheets.proofs.LineLemmas.{at_line, next_is_line}
 use Rattle.sheets.proofs.ListLemmas.{filled_front}
-use Rattle.sheets.proofs.StageLemmas.{rows_on, sizes_on, head_on}
+use Rattle.sheets.proofs.StageLemmas.{rows_on, sizes_on}
 use Rattle.sheets.proofs.reader.read_all.Goals as goal
 
 -- a fault of one of the sheets

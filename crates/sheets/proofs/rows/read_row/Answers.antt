@@ -1,7 +1,6 @@
 -- The letters of a row in turn, behind the length of its line.
-use Rattle.std.proofs.Common.{◌+◌, length, get_or, unwrap_or, ap, arith, rules}
+use Rattle.std.proofs.Common.{◌+◌, length, arith}
 use Rattle.sheets.specs.Reading.{code_at, letter_checks}
-use Rattle.sheets.specs.Words.{letter_code}
 use Rattle.std.proofs.lemmas.Result.{err_from_is_err_and}
 use Rattle.sheets.proofs.CheckLemmas.{fails_behind, passes_both}
 use Rattle.sheets.proofs.ListLemmas.{front_more}

@@ -1,5 +1,5 @@
 -- The fields of the sequence in turn, behind the length of its line.
-use Rattle.std.proofs.Common.{◌+◌, ◌*◌, length, arith, rules}
+use Rattle.std.proofs.Common.{◌+◌, ◌*◌, length, arith}
 use Rattle.std.proofs.lemmas.Result.{err_from_is_err_and}
 use Rattle.sheets.specs.Reading.{number_at, place_checks}
 use Rattle.sheets.proofs.CheckLemmas.{fails_behind, passes_both}

@@ -6,7 +6,7 @@ use Rattle.sheets.specs.AtLines.{IsLine}
 use Rattle.sheets.specs.declared.fault.Sheet.TheVariants.{Sizes}
 use Rattle.sheets.specs.Lines.{goes_on, line_start}
 use Rattle.sheets.specs.Lists.{sides_of, sides_read}
-use Rattle.sheets.specs.Promises.{Fails, Passes, Passed}
+use Rattle.sheets.specs.Promises.{Fails, Passes}
 use Rattle.sheets.specs.Reading.{number_at, size_checks, size_line_checks}
 use Rattle.sheets.proofs.CheckLemmas.{fails_front, fails_behind, fails_here, passes_here, passes_both}
 use Rattle.sheets.proofs.LineLemmas.{at_line, next_is_line}
@@ -18,15 +18,6 @@ use Rattle.sheets.proofs.sizes.read_sizes.Goals as goal
 ended : (sizes bytes : List ℕ) (i m : ℕ) (at : Place) (b : Bool) → bytes ≡ sizes → IsLine sizes i at → i ≡ m → b ≡ goes_on bytes at.offset → goes_on sizes (line_start sizes m) ≡ b
 ended sizes bytes i m at b same here all e =
     subst (λ k. goes_on sizes (line_start sizes k) ≡ b) all (at_line (λ s n o. goes_on s o ≡ b) same here (sym e))
-
-pub loop-side-init : goal.loop-side-init
-loop-side-init c =
-    record {
-      same = refl;
-      at = c.requires;
-      passed = λ k h. absurd (omega arith);
-      read = λ k h. absurd (omega arith);
-    }
 
 pub returns-in_err-side : goal.returns-in_err-side
 returns-in_err-side c =
