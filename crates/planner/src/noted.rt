@@ -6,7 +6,8 @@ use crate::current::Current;
 use module_set::ModuleSet;
 use representations::Representation;
 
-// What was current before a trial: a feasible floorplan, its codes row after row, and its rotated modules.
+// What was current before a trial: a feasible floorplan, its codes row after row, and its rotated modules. The
+// two lists have room for 64 modules, since a change may not use the heap.
 #[derive(Drop)]
 pub(crate) struct Noted {
     size: usize,
