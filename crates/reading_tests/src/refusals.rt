@@ -1,6 +1,7 @@
 // Well-written sheets of three modules that a representation refuses to load.
 use closure_graphs::ClosureGraphs;
 use lengths::{Plain, Sides};
+use plans::Refusal;
 use reading::read;
 use std::process::Abort;
 use std::test::Fail;

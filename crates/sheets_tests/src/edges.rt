@@ -1,6 +1,7 @@
 // The largest and smallest sheets and lists.
 use crate::faults::told;
 use lengths::{Plain, Sides};
+use plans::Refusal;
 use sheets::parse;
 use std::test::Fail;
 

@@ -1,5 +1,6 @@
 // Sheets that are well written or have one fault.
 use lengths::{Plain, Sides};
+use plans::Refusal;
 use sheets::parse;
 
 // What parsing answers, as numbers: the fault's number, sheet, line, column and the width of

@@ -1,5 +1,5 @@
 // Script lines, one at a time.
-use plans::Change;
+use plans::{Change, Refusal};
 use sheets::{Command, Place, read_command};
 use std::test::Fail;
 
