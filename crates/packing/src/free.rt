@@ -39,9 +39,7 @@ impl<'a, R: Representation, L: Length> Job<'a, R, L> {
         let mut free = Corner::origin();
         // A representation tells its sequence place by place, so there is no slice to go over.
         for earlier in 0..place {
-            let Some(j) = self.representation.module_at(earlier) else {
-                unreachable()
-            };
+            let j = self.representation.module_at(earlier).unwrap();
             free = free.moved_past(self.representation.direction(j, i), results[j]);
         }
         free

@@ -55,9 +55,7 @@ impl<'a, R: Representation, L: Length> Job<'a, R, L> {
         requires { NextPlace L.Length.kind (task_of R.Representation.means self.now) (pins_of pin) place results.old }
         ensures { PlacesOne L.Length.kind (task_of R.Representation.means self.now) (pins_of pin) place results.old results.new result }
     {
-        let Some(i) = self.representation.module_at(place) else {
-            unreachable()
-        };
+        let i = self.representation.module_at(place).unwrap();
         let free = self.free_corner(place, i, results);
         let near = near_corner(pin, i, free);
         results[i] = record_at(near, self.sides_of(i));

@@ -12,11 +12,11 @@ loop-earlier-preserved g c =
     let feasible = g.met.R.Representation.feasible c.args.self.now.representation.now in
     let results = c.args.results.now in
     let k = c.loop-earlier.earlier in
-    let j = c.in-Some.j in
+    let j = c.unwrap-j.result in
     let within : k < p.size = omega arith in
-    let inside = module_inside p feasible k j c.module_at.result within c.module_at.ensures c.in-Some.is in
+    let inside = module_inside p feasible k j c.module_at.result within c.module_at.ensures c.unwrap-j.ensures in
     let below : j < length results = omega (arith, inside) in
     free_moved g.L.Length.kind p results k c.args.i j (code_told c.direction.result) c.index-results-j.result
     c.loop-earlier.free c.moved_past-free.result (omega (arith, feasible.fits.long)) below
-    (module_stands p k j c.module_at.result c.module_at.ensures c.in-Some.is) c.direction.ensures
+    (module_stands p k j c.module_at.result c.module_at.ensures c.unwrap-j.ensures) c.direction.ensures
     c.index-results-j.is c.loop-earlier.invariant c.moved_past-free.ensures

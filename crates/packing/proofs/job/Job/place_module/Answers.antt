@@ -8,9 +8,9 @@ pub offset_bounds-results-i : goal.offset_bounds-results-i
 offset_bounds-results-i g c =
     let p = g.R.Representation.means c.args.self.now.representation.now in
     let inside =
-    module_inside p c.requires.ready.packable.feasible c.args.place c.in-Some.i c.module_at.result
-    c.requires.within c.module_at.ensures c.in-Some.is in
-    let room : c.in-Some.i < length c.args.results.now = omega (arith, inside, c.requires.ready.room) in
+    module_inside p c.requires.ready.packable.feasible c.args.place c.unwrap-i.result c.module_at.result
+    c.requires.within c.module_at.ensures c.unwrap-i.ensures in
+    let room : c.unwrap-i.result < length c.args.results.now = omega (arith, inside, c.requires.ready.room) in
     search rules
 
 pub returns : goal.returns
@@ -21,10 +21,10 @@ returns g c =
     let pins = pins_of c.args.pin in
     let results = c.args.results.now in
     let k = c.args.place in
-    let i = c.in-Some.i in
+    let i = c.unwrap-i.result in
     let free = c.free_corner-free.result in
     let near = c.near_corner-near.result in
-    let stands = module_stands t.plan k i c.module_at.result c.module_at.ensures c.in-Some.is in
+    let stands = module_stands t.plan k i c.module_at.result c.module_at.ensures c.unwrap-i.ensures in
     let ready = c.requires.ready in
     let filled = c.requires.filled in
     let within = c.requires.within in
