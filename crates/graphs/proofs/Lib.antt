@@ -1,2 +1,4 @@
--- What rows of sets tell of edges.
+-- What rows of sets tell of edges, and what loops over them make.
 pub mod Rows
+pub mod Changing
+pub mod Reaching

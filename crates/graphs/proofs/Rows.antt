@@ -1,102 +1,121 @@
--- Rows of sets, read and written one by one.
-use Rattle.std.proofs.Common.{◌≡◌, ℕ, ◌+◌, ◌<◌, ◌≤◌, Bool, true, false, cond, ◌&&◌, ◌||◌, eqb, ltb, ◌≢◌, List, length, get_or, set, replicate, sym, refl, ◌∙◌, inl, inr, add-one, arith, get_or-set_other, get_or-set_same, ap}
+-- What rows of sets tell of edges.
+use Rattle.std.proofs.Common.{◌≡◌, ℕ, ◌<◌, ◌≤◌, Bool, false, cond, not, ◌&&◌, ◌||◌, eqb, ltb, List, length, get_or, set, replicate, true, sym, refl, ap, ◌∙◌, inl, inr, arith, get_or-set_other, get_or-set_same}
 use lib.ListN.{get_or-replicate}
 use Rattle.std.proofs.lemmas.Bool.{cases_eq, cases_lt, lt-ltb, le-ltb, eq-eqb, ne_eqb}
+use Rattle.std.proofs.lemmas.Bool.Decides.{nat_tests}
+use Rattle.std.proofs.lemmas.List.Edits.{Swapped}
+use Rattle.module_set.proofs.Membership.{member_outside}
 use Rattle.module_set.specs.Members.{member, no_module}
 use Rattle.module_set.specs.declared.set.ModuleSet.{ModuleSet}
-use Rattle.plans.specs.Search.{some_below}
-use Rattle.module_set.proofs.Membership.{member_outside}
-use Rattle.graphs.specs.Edges.{row_has, edge, steps_below, two_steps}
+use Rattle.plans.specs.Changes.{exchange}
+use Rattle.graphs.specs.Edges.{row_has, row_of, edge, swapped, RowChanged}
 use Rattle.graphs.specs.declared.graph.Graph.{Graph}
 
--- a row below 64 has its set's members
-pub row_inside : (rows : List ModuleSet) (i j : ℕ) → i < 64 → row_has rows i j ≡ member (get_or rows i no_module) j
-unfolding row_has
-row_inside rows i j h = rw (lt-ltb i 64 h) refl
+-- a module below 64 has the edges of its row
+pub edge_inside : (g : Graph) (i j : ℕ) → i < 64 → edge g i j ≡ member (row_of g i) j
+unfolding edge row_has
+edge_inside g i j h = rw (lt-ltb i 64 h) refl
 
 -- and one beyond has none
-pub row_outside : (rows : List ModuleSet) (i j : ℕ) → 64 ≤ i → row_has rows i j ≡ false
-unfolding row_has
-row_outside rows i j h = rw (le-ltb i 64 h) refl
+pub edge_outside : (g : Graph) (i j : ℕ) → 64 ≤ i → edge g i j ≡ false
+unfolding edge row_has
+edge_outside g i j h = rw (le-ltb i 64 h) refl
 
--- the row that is written, and any other
-pub row_written :
-    (rows : List ModuleSet) (i : ℕ) (x : ModuleSet) (j : ℕ) → i < 64 → length rows ≡ 64
-    → row_has (set rows i x) i j ≡ member x j
-row_written rows i x j h e =
-    let l : i < length rows = omega arith in
-    row_inside (set rows i x) i j h ∙ rw get_or-set_same
+-- so rows tell all edges
+pub edges_are :
+    (g : Graph) (has : ℕ → ℕ → Bool) → ((i j : ℕ) → i < 64 → member (row_of g i) j ≡ has i j)
+    → ((i j : ℕ) → 64 ≤ i → has i j ≡ false) → (i j : ℕ) → edge g i j ≡ has i j
+edges_are g has inside outside i j =
+    elim (cases_lt i 64) [
+      | inl h ↦ edge_inside g i j h ∙ inside i j h
+      | inr h ↦ edge_outside g i j h ∙ sym (outside i j h)
+    ]
 
-pub row_kept :
-    (rows : List ModuleSet) (i : ℕ) (x : ModuleSet) (k j : ℕ) → k ≢ i → row_has (set rows i x) k j ≡ row_has rows k j
-unfolding row_has
-row_kept rows i x k j ne = rw get_or-set_other
+-- rows without members
+pub none_edges :
+    (g : Graph) (x : ModuleSet) → g.rows ≡ replicate 64 x → ((j : ℕ) → member x j ≡ false) → (i j : ℕ) → edge g i j ≡ false
+none_edges g x all none =
+    edges_are g (λ i j. false)
+    (λ i j h.
+    ap (λ rows. member (get_or rows i no_module) j) all ∙ ap (λ s. member s j) (get_or-replicate 64 i x no_module h) ∙ none j)
+    (λ i j h. refl)
 
 -- one row replaced
 pub row_replaced :
-    (rows : List ModuleSet) (i : ℕ) (x : ModuleSet) → i < 64 → length rows ≡ 64 → (k j : ℕ)
-    → row_has (set rows i x) k j ≡ cond (eqb k i) (member x j) (row_has rows k j)
-row_replaced rows i x h e k j =
-    elim (cases_eq k i) [
-      | inl same ↦ rw (same, eq-eqb i i refl) (row_written rows i x j h e)
-      | inr other ↦ rw (ne_eqb k i other) (row_kept rows i x k j other)
-    ]
+    (g h : Graph) (i : ℕ) (x : ModuleSet) → i < 64 → h.rows ≡ set g.rows i x → (k j : ℕ)
+    → edge h k j ≡ cond (ltb k 64 && eqb k i) (member x j) (edge g k j)
+row_replaced g h i x inside new =
+    edges_are h (λ k j. cond (ltb k 64 && eqb k i) (member x j) (edge g k j))
+    (λ k j small.
+    ap (λ rows. member (get_or rows k no_module) j) new
+    ∙ elim (cases_eq k i) [
+      | inl same ↦
+          let long : i < length g.rows = omega (arith, g.full) in
+          rw (same, lt-ltb i 64 inside, eq-eqb i i refl) (ap (λ s. member s j) (get_or-set_same g.rows i x no_module long))
+      | inr other ↦
+          let kept = get_or-set_other g.rows i k x no_module other in
+          rw (lt-ltb k 64 small, ne_eqb k i other) (ap (λ s. member s j) kept ∙ sym (edge_inside g k j small))
+    ])
+    (λ k j large. rw (le-ltb k 64 large) (edge_outside g k j large))
 
--- rows of one set
-pub same_rows : (x : ModuleSet) (i j : ℕ) → row_has (replicate 64 x) i j ≡ (ltb i 64 && member x j)
-same_rows x i j =
-    elim (cases_lt i 64) [
-      | inl h ↦ row_inside (replicate 64 x) i j h ∙ rw (get_or-replicate 64 i x no_module h, lt-ltb i 64 h) refl
-      | inr h ↦ row_outside (replicate 64 x) i j h ∙ rw (le-ltb i 64 h) refl
-    ]
+-- what a change leaves that gains nothing, or loses nothing
+pub or_nothing : (b : Bool) → (b || false) ≡ b
+or_nothing true = refl
+or_nothing false = refl
 
-and_false : (x : Bool) → (x && false) ≡ false
-and_false true = refl
-and_false false = refl
+pub and_all : (b : Bool) → (b && not false) ≡ b
+and_all true = refl
+and_all false = refl
 
--- a loop over all modules leaves none out
-pub all_edges :
-    (g : Graph) (j : ℕ) (s : ModuleSet) (n : ℕ) → 64 ≤ n → ((k : ℕ) → k < n → member s k ≡ edge g k j)
-    → ((k : ℕ) → n ≤ k → member s k ≡ false) → (k : ℕ) → member s k ≡ edge g k j
-unfolding edge
-all_edges g j s n h below above k =
-    elim (cases_lt k n) [
-      | inl l ↦ below k l
-      | inr l ↦ above k l ∙ sym (row_outside g.rows k j (omega arith))
-    ]
+-- the rows of a set's modules changed, by a test of what a row had and of what another set has
+pub rows_changed :
+    (op : Bool → Bool → Bool) (Makes : ModuleSet → ModuleSet → Type 0) (g h : Graph) (from to : ModuleSet)
+    → ((i : ℕ) → i < 64 → RowChanged Makes (member from i) (row_of g i) (row_of h i))
+    → ((x y : ModuleSet) → Makes x y → (j : ℕ) → member y j ≡ op (member x j) (member to j))
+    → ((b : Bool) → op b false ≡ b)
+    → (i j : ℕ) → edge h i j ≡ op (edge g i j) (member from i && member to j)
+rows_changed op Makes g h from to changed made stays =
+    edges_are h (λ i j. op (edge g i j) (member from i && member to j))
+    (λ i j small.
+    settle (member from i) (row_of g i) (row_of h i) (changed i small) j
+    ∙ ap (λ b. op b (member from i && member to j)) (sym (edge_inside g i j small)))
+    (λ i j large. rw (edge_outside g i j large, member_outside from i large) (stays false))
+  where
+    settle :
+        (b : Bool) (x y : ModuleSet) → RowChanged Makes b x y → (j : ℕ)
+        → member y j ≡ op (member x j) (b && member to j)
+    settle true x y m j = made x y m j
+    settle false x y m j = ap (λ s. member s j) m ∙ sym (stays (member x j))
 
-pub all_members : (s : ModuleSet) (n k : ℕ) (b : Bool) → 64 ≤ n → (ltb k n && (member s k && b)) ≡ (member s k && b)
-all_members s n k b h =
-    elim (cases_lt k 64) [
-      | inl l ↦ rw (lt-ltb k n (omega arith)) refl
-      | inr l ↦ rw (member_outside s k l) (and_false (ltb k n))
-    ]
+-- two rows in each other's place, and their members too
+pub rows_swapped :
+    (g h : Graph) (mid : List ModuleSet) (a b : ℕ) → a < 64 → b < 64
+    → Swapped (λ i. get_or g.rows i no_module) (λ i. get_or mid i no_module) a b
+    → ((i j : ℕ) → i < 64 → member (row_of h i) j ≡ member (get_or mid i no_module) (swapped a b j))
+    → (i j : ℕ) → edge h i j ≡ edge g (swapped a b i) (swapped a b j)
+rows_swapped g h mid a b p q two turned =
+    edges_are h (λ i j. edge g (swapped a b i) (swapped a b j))
+    (λ i j small.
+    turned i j small ∙ ap (λ s. member s (swapped a b j)) (there i)
+    ∙ sym (edge_inside g (swapped a b i) (swapped a b j) (below i small)))
+    (λ i j large. edge_outside g (swapped a b i) (swapped a b j) (beyond i large))
+  where
+    below : (i : ℕ) → i < 64 → swapped a b i < 64
+    below i small = grind (arith, nat_tests)
 
-pub all_rows :
-    (g : Graph) (n k x y : ℕ) → 64 ≤ n → edge g k (cond (ltb k n) x y) ≡ edge g k x
-unfolding edge
-all_rows g n k x y h =
-    elim (cases_lt k 64) [
-      | inl l ↦ rw (lt-ltb k n (omega arith)) refl
-      | inr l ↦ row_outside g.rows k (cond (ltb k n) x y) l ∙ sym (row_outside g.rows k x l)
-    ]
+    beyond : (i : ℕ) → 64 ≤ i → 64 ≤ swapped a b i
+    beyond i large = grind (arith, nat_tests)
 
-or_swap : (x y : Bool) → (x || y) ≡ (y || x)
-or_swap true true = refl
-or_swap true false = refl
-or_swap false true = refl
-or_swap false false = refl
+    inside : (i : ℕ) → swapped a b i ≡ exchange a b i
+    inside i = rw (lt-ltb a 64 p, lt-ltb b 64 q) refl
 
--- one module more to go through
-pub steps_more :
-    (g : Graph) (i n k : ℕ) (b : Bool) → b ≡ (edge g i n && edge g n k)
-    → steps_below g i (n + 1) k ≡ (steps_below g i n k || b)
-unfolding steps_below
-steps_more g i n k b e =
-    rw (add-one n, e) (or_swap (edge g i n && edge g n k) (some_below n (λ j. edge g i j && edge g j k)))
-
--- all modules gone through
-pub steps_all :
-    (g : Graph) (i n k : ℕ) (b : Bool) → n ≡ 64 → b ≡ steps_below g i n k → b ≡ two_steps g i k
-unfolding steps_below two_steps
-steps_all g i n k b h e = e ∙ ap (λ n. steps_below g i n k) h
+    there : (i : ℕ) → get_or mid i no_module ≡ row_of g (swapped a b i)
+    there i =
+        rw (inside i) (elim (cases_eq i a) [
+          | inl same ↦ rw (eq-eqb i a same, same) two.0
+          | inr not-a ↦
+              elim (cases_eq i b) [
+                | inl same ↦ rw (ne_eqb i a not-a, eq-eqb i b same, same) two.1
+                | inr not-b ↦ rw (ne_eqb i a not-a, ne_eqb i b not-b) (two.2 i not-a not-b)
+              ]
+        ])

@@ -1,5 +1,5 @@
 -- The edges of a graph on modules 0 to 63.
-use Rattle.std.specs.Prelude.{ℕ, Bool, cond, ◌&&◌, List, nat_lt, slice_index_or}
+use Rattle.std.specs.Prelude.{◌≡◌, ℕ, Bool, true, false, cond, ◌&&◌, List, nat_lt, slice_index_or}
 use Rattle.graphs.specs.declared.graph.Graph.{Graph}
 use Rattle.module_set.specs.Members.{member, no_module}
 use Rattle.module_set.specs.declared.set.ModuleSet.{ModuleSet}
@@ -15,10 +15,6 @@ unfoldable pub edge : Graph → ℕ → ℕ → Bool
 unfolding row_has
 edge g i j = row_has g.rows i j
 
--- whether a graph has an edge to k from a module below n to which i has an edge
-unfoldable pub steps_below : Graph → ℕ → ℕ → ℕ → Bool
-steps_below g i n k = some_below n (λ j. edge g i j && edge g j k)
-
 -- whether a graph has an edge to k from a module to which i has an edge
 unfoldable pub two_steps : Graph → ℕ → ℕ → Bool
 two_steps g i k = some_below 64 (λ j. edge g i j && edge g j k)
@@ -26,3 +22,12 @@ two_steps g i k = some_below 64 (λ j. edge g i j && edge g j k)
 -- a and b in each other's place, where both are below 64
 abbrev pub swapped : ℕ → ℕ → ℕ → ℕ
 swapped a b i = cond (nat_lt a 64 && nat_lt b 64) (exchange a b i) i
+
+-- the successors of a module, where it is one of 0 to 63
+abbrev pub row_of : Graph → ℕ → ModuleSet
+row_of g i = slice_index_or g.rows i no_module
+
+-- a row in a changed graph: made of the old one where it was to change, and the old one where not
+abbrev pub RowChanged : (ModuleSet → ModuleSet → Type 0) → Bool → ModuleSet → ModuleSet → Type 0
+RowChanged Makes true old new = Makes old new
+RowChanged Makes false old new = new ≡ old

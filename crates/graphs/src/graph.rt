@@ -1,7 +1,6 @@
 // A graph on modules 0 to 63, as the set of successors of each module.
 mod edits;
 mod reads;
-mod rows;
 
 ghost use Rattle.std.specs.Prelude.{◌≡◌, length};
 

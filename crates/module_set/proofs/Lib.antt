@@ -1,3 +1,4 @@
--- What the bits of a number tell, and the members of a set by them.
+-- What the bits of a number tell, the members of a set by them, and taking them out.
 pub mod Bits
 pub mod Membership
+pub mod Taking

@@ -1,5 +1,5 @@
 -- The members of a set of modules.
-use Rattle.std.specs.Prelude.{ℕ, ◌/◌, ◌%◌, ◌^◌, Bool, false, not, ◌&&◌, Some, None, Option, ◌==◌, nat_lt}
+use Rattle.std.specs.Prelude.{◌≡◌, ℕ, ◌/◌, ◌%◌, ◌^◌, Bool, false, not, ◌&&◌, Some, None, Option, ◌==◌, nat_lt}
 use Rattle.plans.specs.Search.{some_below, count_below, first_below}
 use Rattle.module_set.specs.declared.set.ModuleSet.{ModuleSet}
 
@@ -35,3 +35,7 @@ member_count s = count_below 64 (member s)
 abbrev pub is_this : Option ℕ → ℕ → Bool
 is_this (Some i) k = k == i
 is_this None k = false
+
+-- the least member is found and taken out, or there is none
+abbrev pub TakesLeast : ModuleSet → Option ℕ → ModuleSet → Type 0
+TakesLeast s r t = (r ≡ least_member s) × ((k : ℕ) → member t k ≡ (member s k && not (is_this r k)))

@@ -67,19 +67,26 @@ impl ModuleSet {
         self.minus(ModuleSet::single(i))
     }
 
+    // The set with i in it where it was out, and out where it was in; where i is over 63, the set as it is.
+    pub fn toggled(self, i: usize) -> ModuleSet
+        ensures { (k : ℕ) → member result k ≡ (if nat_lt i 64 && k == i then not (member self k) else member self k) }
+    {
+        if self.contains(i) {
+            self.without(i)
+        } else {
+            self.with(i)
+        }
+    }
+
     // The set with a and b in each other's place, as it is where either is over 63.
     pub fn exchanged(self, a: usize, b: usize) -> ModuleSet
         ensures { (k : ℕ) → member result k ≡ member self (if nat_lt a 64 && nat_lt b 64 then exchange a b k else k) }
     {
-        let (has_a, has_b) = (self.contains(a), self.contains(b));
-        if a < 64 && b < 64 && has_a != has_b {
-            let both = ModuleSet::single(a).union(ModuleSet::single(b));
-            if has_a {
-                return self.minus(both).with(b);
-            }
-            return self.minus(both).with(a);
+        if a < 64 && b < 64 && self.contains(a) != self.contains(b) {
+            self.toggled(a).toggled(b)
+        } else {
+            self
         }
-        self
     }
 
     // Whether there is no member.

@@ -8,10 +8,10 @@ use Rattle.graphs.specs.declared.graph.Graph.{Graph}
 use Rattle.module_set.proofs.Membership.{member_outside}
 use Rattle.module_set.specs.Members.{member, least_member}
 use Rattle.module_set.specs.declared.set.ModuleSet.{ModuleSet}
-use Rattle.plans.proofs.Searches.{some_tells, some_from, first_tells}
+use Rattle.plans.proofs.Searches.{some_tells, some_from, first_is, first_tells}
 use Rattle.plans.proofs.TableLists.{table_within}
 use Rattle.plans.specs.First.{IsFirst}
-use Rattle.plans.specs.Search.{first_pair}
+use Rattle.plans.specs.Search.{first_below, first_pair}
 use Rattle.plans.specs.Tables.{Table, table_of}
 use Rattle.plans.specs.Tests.{not_closed}
 use Rattle.table_tests.specs.Closure.{lacks, missing}
@@ -35,20 +35,11 @@ least_first s p m same inside r e = settle r (subst (IsFirst (member s) 64) (sym
           | inr g ↦ sym (same l) ∙ member_outside s l g
         ]
 
--- the set of what a graph lacks from i
-pub lacking_members :
-    (g : Graph) (i : ℕ) (two one d : ModuleSet) → ((k : ℕ) → member two k ≡ two_steps g i k)
-    → ((k : ℕ) → member one k ≡ edge g i k) → ((k : ℕ) → member d k ≡ (member two k && not (member one k)))
-    → (k : ℕ) → member d k ≡ lacks g i k
-lacking_members g i two one d t o e k =
-    e k ∙ ap (λ b. b && not (member one k)) (t k) ∙ ap (λ b. two_steps g i k && not b) (o k)
-
-pub missing_members :
-    (g h : Graph) (i : ℕ) (d e u : ModuleSet) → ((k : ℕ) → member d k ≡ lacks g i k)
-    → ((k : ℕ) → member e k ≡ lacks h i k) → ((k : ℕ) → member u k ≡ (member d k || member e k))
-    → (k : ℕ) → member u k ≡ missing g h i k
-missing_members g h i d e u p q r k =
-    r k ∙ ap (λ b. b || member e k) (p k) ∙ ap (λ b. lacks g i k || b) (q k)
+-- so it is what is found below the bound
+pub least_below :
+    (s : ModuleSet) (p : ℕ → Bool) (m : ℕ) (r : Option ℕ) → r ≡ least_member s → ((k : ℕ) → member s k ≡ p k)
+    → ((k : ℕ) → p k ≡ true → k < m) → r ≡ first_below m p
+least_below s p m r e same inside = sym (first_is p m r (least_first s p m same inside r e))
 
 -- two steps from i to k go over some module
 steps_over :

@@ -1,19 +1,16 @@
 -- The tests of codes at the places of a flat table.
-use Rattle.std.proofs.Common.{◌≡◌, ℕ, ◌+◌, ◌*◌, ◌/◌, ◌%◌, ◌<◌, ◌≤◌, Bool, true, false, cond, not, ltb, List, length, get_or, Some, None, sym, refl, ap, ◌∙◌, subst, inl, inr, arith}
+use Rattle.std.proofs.Common.{◌≡◌, ℕ, ◌*◌, ◌/◌, ◌%◌, ◌<◌, ◌≤◌, Bool, true, false, cond, not, ltb, List, length, get_or, Some, None, Option, sym, refl, ap, ◌∙◌, inl, inr, arith}
 use mathlib.Core.Bool.{beq}
 use Rattle.std.specs.Option.{option_map}
-use Rattle.std.proofs.lemmas.Bool.{cases_eq, eq-eqb, ne_eqb, lt-ltb, le-ltb}
+use Rattle.std.specs.Prelude.{MatchOption}
+use Rattle.std.proofs.lemmas.Bool.{cases_eq, cases_lt, eq-eqb, ne_eqb, lt-ltb, le-ltb}
 use Rattle.plans.proofs.Searches.{first_is}
-use Rattle.plans.proofs.TableLists.{code_at, place_below, table_inside}
+use Rattle.plans.proofs.TableLists.{code_at}
 use Rattle.plans.specs.First.{IsFirst}
 use Rattle.plans.specs.Search.{first_pair}
 use Rattle.plans.specs.Tables.{Table, table_of}
 use Rattle.plans.specs.Tests.{code_wrong, self_related, not_one_edge}
-use Rattle.table_tests.proofs.PairRows.{Clean, clean_found, clean_more}
-
--- a place of the table lies in the list
-pub place_in : (m i j : ℕ) (codes : List ℕ) → length codes ≡ m * m → i < m → j < m → i * m + j < length codes
-place_in m i j codes e h k = omega (arith, place_below m i j h k)
+use Rattle.table_tests.proofs.PairRows.{first_pair_is}
 
 module _ (g m : ℕ) (codes : List ℕ) (full : length codes ≡ m * m) where
   -- whether the code at a place is too great
@@ -41,33 +38,26 @@ module _ (g m : ℕ) (codes : List ℕ) (full : length codes ≡ m * m) where
       sym (ap (option_map (λ k. (k / m, k % m))) (first_is great (m * m) None
       (λ l i. great_at l i ∙ le-ltb g (get_or codes l 0) (below l (omega arith)))))
 
--- the row of a module that is related to itself
-self_row : (c : Table) (m i : ℕ) → i < m → 0 < c i i → IsFirst (self_related c i) m (Some i)
-self_row c m i h more =
-    (h, rw (eq-eqb i i refl, lt-ltb 0 (c i i) more) refl, λ l k. rw (ne_eqb i l (λ e. omega arith)) refl)
-
--- and of one that is not
-self_none : (c : Table) (m i : ℕ) → c i i ≤ 0 → IsFirst (self_related c i) m None
-self_none c m i less l h =
-    elim (cases_eq i l) [
-      | inl same ↦
-          let e : c i l ≤ 0 = subst (λ n. c i n ≤ 0) same less in
-          rw (eq-eqb i l same, le-ltb 0 (c i l) e) refl
-      | inr other ↦ rw (ne_eqb i l other) refl
+-- off the diagonal no pair is related to itself, and on it where its module is
+off : (c : Table) (k l : ℕ) → (k ≡ l → ltb 0 (c k k) ≡ false) → self_related c k l ≡ false
+off c k l none =
+    elim (cases_eq k l) [
+      | inl same ↦ rw (sym same, eq-eqb k k refl, none same) refl
+      | inr other ↦ rw (ne_eqb k l other) refl
     ]
 
-module _ (m : ℕ) (codes : List ℕ) (i : ℕ) (h : i < m) (clean : Clean (self_related (table_of m codes)) m i) where
-  pub self_found :
-      0 < get_or codes (i * m + i) 0 → Some (i, i) ≡ first_pair m (self_related (table_of m codes))
-  self_found more =
-      clean_found (self_related (table_of m codes)) m i i clean h
-      (self_row (table_of m codes) m i h (rw (table_inside m codes i i h h) more))
-
-  pub self_more :
-      get_or codes (i * m + i) 0 ≤ 0 → Clean (self_related (table_of m codes)) m (i + 1)
-  self_more less =
-      clean_more (self_related (table_of m codes)) m i clean
-      (self_none (table_of m codes) m i (rw (table_inside m codes i i h h) less))
+-- the first module that is related to itself, as a pair
+pub diagonal_first :
+    (c : Table) (m : ℕ) (r : Option ℕ) → IsFirst (λ i. ltb 0 (c i i)) m r
+    → option_map (λ i. (i, i)) r ≡ first_pair m (self_related c)
+diagonal_first c m (Some i) f =
+    first_pair_is (self_related c) m (Some (i, i)) (
+      f.0,
+      f.0,
+      rw (eq-eqb i i refl, f.1) refl,
+      λ k l g h b. off c k l (λ same. elim b [ inl less ↦ f.2 k less | inr (e, less) ↦ absurd (omega arith) ]),
+    )
+diagonal_first c m None f = first_pair_is (self_related c) m None (λ k l g h. off c k l (λ same. f k g))
 
 -- with one edge and no more, exactly one of the two codes is not 0
 beq_is : (x y : Bool) → beq x y ≡ cond x y (not y)
@@ -76,16 +66,24 @@ beq_is true false = refl
 beq_is false true = refl
 beq_is false false = refl
 
-module _ (m : ℕ) (codes : List ℕ) (i : ℕ) (h : i < m) where
-  abbrev pair : ℕ → Bool
-  pair = not_one_edge (table_of m codes) i
+-- the test of a pair, of two modules in their order
+pub pair_at :
+    (c : Table) (i j : ℕ) → i < j → not_one_edge c i j ≡ beq (ltb 0 (c i j)) (ltb 0 (c j i))
+pair_at c i j less = rw (lt-ltb i j less) (sym (beq_is (ltb 0 (c i j)) (ltb 0 (c j i))))
 
-  pub pair_at :
-      (j : ℕ) → i < j → j < m
-      → pair j ≡ beq (ltb 0 (get_or codes (i * m + j) 0)) (ltb 0 (get_or codes (j * m + i) 0))
-  pair_at j less l =
-      rw (lt-ltb i j less, table_inside m codes i j h l, table_inside m codes j i l h)
-      (sym (beq_is (ltb 0 (get_or codes (i * m + j) 0)) (ltb 0 (get_or codes (j * m + i) 0))))
+pub pair_low : (c : Table) (i j : ℕ) → j ≤ i → not_one_edge c i j ≡ false
+pair_low c i j l = rw (le-ltb i j l) refl
 
-  pub pair_low : (n : ℕ) → n ≤ i → pair n ≡ false
-  pair_low n l = rw (le-ltb i n l) refl
+-- what is found from a on is first, where nothing before a passes
+pub range_first :
+    (p q : ℕ → Bool) (a n : ℕ) (r : Option ℕ) → ((k : ℕ) → k < a → p k ≡ false) → ((k : ℕ) → a ≤ k → k < n → p k ≡ q k)
+    → MatchOption r ((k : ℕ) → a ≤ k → k < n → q k ≡ false)
+    (λ i. (a ≤ i) × (i < n) × (q i ≡ true) × ((k : ℕ) → a ≤ k → k < i → q k ≡ false))
+    → IsFirst p n r
+range_first p q a n (Some i) low same f = (
+  f.1,
+  same i f.0 f.1 ∙ f.2,
+  λ l h. elim (cases_lt l a) [ inl g ↦ low l g | inr g ↦ same l g (omega (arith, f.1)) ∙ f.3 l g h ],
+)
+range_first p q a n None low same f =
+    λ l h. elim (cases_lt l a) [ inl g ↦ low l g | inr g ↦ same l g h ∙ f l g h ]

@@ -1,9 +1,13 @@
 -- The first pair in row order, found by looking for the first of each row.
-use Rattle.std.proofs.Common.{◌≡◌, ℕ, ◌+◌, ◌<◌, ◌≤◌, Bool, false, Some, None, Option, sym, refl, ◌∙◌, subst, inl, inr, arith}
-use Rattle.std.proofs.lemmas.Bool.{cases_eq, cases_order, true≢false}
+use Rattle.std.proofs.Common.{◌≡◌, ℕ, ◌<◌, Bool, false, Some, None, Option, sym, refl, ap, ◌∙◌, subst, inl, inr}
+use Rattle.std.proofs.lemmas.Bool.{cases_order, true≢false}
 use Rattle.plans.proofs.Searches.{first_tells, first_pair_tells}
 use Rattle.plans.specs.First.{IsFirst, IsFirstPair}
+use Rattle.plans.specs.Changes.{unless}
 use Rattle.plans.specs.Search.{first_below, first_pair}
+use Rattle.plans.specs.Tests.{telling_pair}
+use Rattle.plans.specs.declared.refusals.LoadRefusal.{LoadRefusal}
+use Rattle.table_tests.specs.Rows.{FirstRow}
 
 -- two pairs that both pass, with none before them that does, are one
 pair_same :
@@ -35,35 +39,32 @@ pair_only p m None None f g = refl
 pub first_pair_is : (p : ℕ → ℕ → Bool) (m : ℕ) (r : Option (ℕ × ℕ)) → IsFirstPair p m r → r ≡ first_pair m p
 first_pair_is p m r f = pair_only p m r (first_pair m p) f (first_pair_tells m p)
 
--- no pair of the rows below n passes
-abbrev pub Clean : (ℕ → ℕ → Bool) → ℕ → ℕ → Type 0
-Clean p m n = (k l : ℕ) → k < n → l < m → p k l ≡ false
-
-pub clean_none : (p : ℕ → ℕ → Bool) (m : ℕ) → Clean p m 0
-clean_none p m k l h g = absurd (omega arith)
-
--- the first of the row after them is the first pair
-pub clean_found :
-    (p : ℕ → ℕ → Bool) (m n j : ℕ) → Clean p m n → n < m → IsFirst (p n) m (Some j) → Some (n, j) ≡ first_pair m p
-clean_found p m n j clean h f =
-    first_pair_is p m (Some (n, j)) (
-      h,
-      f.0,
-      f.1,
-      λ k l g i b.
-          elim b [
-            | inl less ↦ clean k l less i
-            | inr (same, less) ↦ rw same (f.2 l less)
-          ],
-    )
-
-pub clean_more : (p : ℕ → ℕ → Bool) (m n : ℕ) → Clean p m n → IsFirst (p n) m None → Clean p m (n + 1)
-clean_more p m n clean f k l h g =
-    elim (cases_eq k n) [ inl same ↦ rw same (f l g) | inr other ↦ clean k l (omega (arith, other)) g ]
-
-pub clean_all : (p : ℕ → ℕ → Bool) (m n : ℕ) → Clean p m n → m ≤ n → None ≡ first_pair m p
-clean_all p m n clean h = first_pair_is p m None (λ k l g i. clean k l (omega arith) i)
-
 -- where a row's first is known
 pub row_is : (q : ℕ → Bool) (m : ℕ) (r : Option ℕ) → r ≡ first_below m q → IsFirst q m r
 row_is q m r e = subst (IsFirst q m) (sym e) (first_tells q m)
+
+-- so what is found going through the rows is the first pair, where each row gives its first
+pub first_rows :
+    (p : ℕ → ℕ → Bool) (m : ℕ) (gives : ℕ → Option ℕ → Type 0) (r : Option (ℕ × ℕ)) → FirstRow m gives r
+    → ((i : ℕ) (r : Option ℕ) → i < m → gives i r → r ≡ first_below m (p i)) → r ≡ first_pair m p
+first_rows p m gives (Some q) found rows =
+    let f = found.first in
+    let here = row_is (p q.0) m (Some q.1) (rows q.0 (Some q.1) f.0 f.1) in
+    first_pair_is p m (Some q) (
+      f.0,
+      here.0,
+      here.1,
+      λ k l g i b.
+          elim b [
+            | inl less ↦ row_is (p k) m None (rows k None g (f.2 k less)) l i
+            | inr (same, less) ↦ rw same (here.2 l less)
+          ],
+    )
+first_rows p m gives None found rows =
+    first_pair_is p m None (λ k l g i. row_is (p k) m None (rows k None g (found.first k g)) l i)
+
+-- a refusal that tells the first pair
+pub told :
+    (refusal : ℕ → ℕ → LoadRefusal) (r s : Option (ℕ × ℕ)) → r ≡ s
+    → unless (telling_pair refusal r) (tt {0}) ≡ unless (telling_pair refusal s) (tt {0})
+told refusal r s e = ap (λ o. unless (telling_pair refusal o) (tt {0})) e

@@ -1,14 +1,19 @@
 -- The places of a sequence, by marking the modules that are met.
-use Rattle.std.proofs.Common.{◌≡◌, ℕ, zero, suc, ◌+◌, ◌*◌, ◌<◌, ◌≤◌, Bool, true, false, ◌&&◌, ◌||◌, eqb, ltb, leb, ◌≢◌, List, length, get_or, set, replicate, Some, None, Option, sym, refl, ◌∙◌, subst, inl, inr, add-one, arith, length-set, get_or-set_other, get_or-set_same}
-use Rattle.std.proofs.lemmas.Bool.{cases_eq, cases_order, lt-ltb, le-leb, eq-eqb, ne_eqb, true≢false, or_parts, leb-false}
+use Rattle.std.proofs.Common.{◌≡◌, ℕ, ◌+◌, ◌<◌, ◌≤◌, Bool, true, false, ◌&&◌, ◌||◌, eqb, ltb, leb, ◌≢◌, List, length, get_or, set, Some, None, Option, Ok, sym, refl, ap, ◌∙◌, subst, inl, inr, add-one, arith, length-set, get_or-set_other, get_or-set_same}
+use Rattle.std.proofs.lemmas.Bool.{cases_eq, cases_order, lt-ltb, le-leb, eq-eqb, true≢false, or_parts, leb-false}
 use Rattle.std.proofs.lemmas.Bool.Decides.{nat_tests}
+use Rattle.std.specs.Option.{option_map}
+use Rattle.std.specs.Prelude.{MatchOption}
+use Rattle.std.specs.List.{AllWithin, HoldsAt, zip}
+use Rattle.std.proofs.lemmas.Slice.Zip.{get_or-zip, length-zip}
+use Rattle.plans.specs.Changes.{unless}
+use Rattle.plans.specs.declared.refusals.LoadRefusal.TheVariants.{WrongPlace}
 use Rattle.plans.proofs.Pigeonhole.{Different, all_found}
 use Rattle.plans.proofs.Places.{place_at}
-use Rattle.plans.proofs.Searches.{some_from}
-use Rattle.plans.proofs.TableLists.{table_inside}
+use Rattle.plans.proofs.Searches.{some_from, first_is, first_tells}
 use Rattle.plans.specs.First.{IsFirst}
-use Rattle.plans.specs.Search.{some_below, place_of}
-use Rattle.plans.specs.Tables.{Table, table_of}
+use Rattle.plans.specs.Search.{some_below, first_below, place_of}
+use Rattle.plans.specs.Tables.{Table}
 use Rattle.plans.specs.Tests.{place_wrong, backwards}
 use Rattle.table_tests.specs.Places.{against}
 
@@ -37,33 +42,6 @@ met_more s k x =
     by_cases true false true = refl
     by_cases true false false = refl
 
--- a row without marks, and with one more
-pub mark_none : (n x : ℕ) → get_or (replicate n false) x false ≡ false
-mark_none zero x = refl
-mark_none (suc n) zero = refl
-mark_none (suc n) (suc x) = mark_none n x
-
-pub mark_more :
-    (marks : List Bool) (m x : ℕ) → length marks ≡ 64 → m < 64
-    → get_or (set marks m true) x false ≡ (get_or marks x false || (ltb x 64 && eqb x m))
-mark_more marks m x long h =
-    elim (cases_eq x m) [
-      | inl same ↦
-          let less : m < length marks = omega (arith, long) in
-          rw (same, lt-ltb m 64 h, eq-eqb m m refl) (get_or-set_same marks m true false less ∙ always (get_or marks m false))
-      | inr other ↦
-          rw (ne_eqb x m other) (get_or-set_other marks m x true false other ∙ never (get_or marks x false) (ltb x 64))
-    ]
-  where
-    always : (b : Bool) → true ≡ (b || true)
-    always true = refl
-    always false = refl
-
-    never : (b c : Bool) → b ≡ (b || (c && false))
-    never true c = refl
-    never false true = refl
-    never false false = refl
-
 -- a place is wrong where its number is no module, or one that was met
 pub wrong_beyond : (s : List ℕ) (k : ℕ) → length s ≤ get_or s k 0 → place_wrong s k ≡ true
 wrong_beyond s k h = rw (le-leb (length s) (get_or s k 0) h) refl
@@ -74,6 +52,24 @@ pub wrong_met :
 wrong_met s k h few b e =
     let t : leb (length s) (get_or s k 0) ≡ false = grind (arith, nat_tests) in
     rw t (sym (e ∙ rw (lt-ltb (get_or s k 0) 64 (omega arith)) refl))
+
+-- the refusal that tells the first wrong place
+pub told_place :
+    (s : List ℕ) (r : Option ℕ) → IsFirst (place_wrong s) (length s) r
+    → unless (option_map WrongPlace r) (tt {0}) ≡ unless (option_map WrongPlace (first_below (length s) (place_wrong s))) (tt {0})
+told_place s r f = ap (λ o. unless (option_map WrongPlace o) (tt {0})) (sym (first_is (place_wrong s) (length s) r f))
+
+-- and with none, no place is wrong
+pub none_wrong :
+    (s : List ℕ) → Ok (tt {0}) ≡ unless (option_map WrongPlace (first_below (length s) (place_wrong s))) (tt {0})
+    → (k : ℕ) → k < length s → place_wrong s k ≡ false
+none_wrong s = settle (first_below (length s) (place_wrong s)) (first_tells (place_wrong s) (length s))
+  where
+    settle :
+        (r : Option ℕ) → IsFirst (place_wrong s) (length s) r → Ok (tt {0}) ≡ unless (option_map WrongPlace r) (tt {0})
+        → (k : ℕ) → k < length s → place_wrong s k ≡ false
+    settle (Some l) f e = absurd cc
+    settle None f e = f
 
 -- a sequence without a wrong place names each module once
 pub named_once :
@@ -125,22 +121,36 @@ written_all s k places all different w i h =
     subst (λ x. get_or places x 0 ≡ place_of s x) e
     (w.1 l (omega arith) ∙ sym (place_at (length s) s refl different l g))
 
--- the test of an edge at its place in the list of codes
-pub against_at :
-    (m : ℕ) (codes places : List ℕ) (i j : ℕ) → i < m → j < m
-    → against (table_of m codes) places i j ≡ (ltb 0 (get_or codes (i * m + j) 0) && ltb (get_or places j 0) (get_or places i 0))
-against_at m codes places i j h l = rw (table_inside m codes i j h l) refl
+-- of a row of codes beside the places, the first code that is not 0 at a place below a module's own
+pub beside_first :
+    (row places : List ℕ) (own m : ℕ) (r : Option ℕ) → length row ≡ m → m ≤ length places
+    → MatchOption r (AllWithin (λ x. (ltb 0 x.0 && ltb x.1 own) ≡ false) (zip row places) 0 (length (zip row places)))
+    (λ k. (k < length (zip row places)) × HoldsAt (λ x. (ltb 0 x.0 && ltb x.1 own) ≡ true) (zip row places) k
+    × AllWithin (λ x. (ltb 0 x.0 && ltb x.1 own) ≡ false) (zip row places) 0 k)
+    → IsFirst (λ j. ltb 0 (get_or row j 0) && ltb (get_or places j 0) own) m r
+beside_first row places own m (Some k) long few f =
+    let z = length-zip row places in (
+      omega (arith, f.0),
+      rw (get_or-zip row places k (0, 0) (omega (arith, f.0)) (omega (arith, f.0))) at (f.1 (0, 0)),
+      λ l h.
+          rw (get_or-zip row places l (0, 0) (omega (arith, f.0)) (omega (arith, f.0))) at (f.2 l (0, 0) (omega arith) h),
+    )
+beside_first row places own m None long few f =
+    λ l h.
+    let z = length-zip row places in
+    rw (get_or-zip row places l (0, 0) (omega arith) (omega arith)) at (f l (0, 0) (omega arith) (omega arith))
 
--- edges against the places are edges against the sequence
-pub against_backwards :
-    (c : Table) (s places : List ℕ) (i : ℕ) → i < length s
+-- the first edge against the places is the first against the sequence
+pub against_first :
+    (c : Table) (s places : List ℕ) (m i : ℕ) → length s ≡ m → i < m
     → ((x : ℕ) → x < length s → get_or places x 0 ≡ place_of s x)
-    → (r : Option ℕ) → IsFirst (against c places i) (length s) r → IsFirst (backwards c s i) (length s) r
-against_backwards c s places i h placed = settle
+    → (r : Option ℕ) → r ≡ first_below m (against c places i) → r ≡ first_below m (backwards c s i)
+against_first c s places m i long h placed r e =
+    sym (first_is (backwards c s i) m r (settle r (subst (IsFirst (against c places i) m) (sym e) (first_tells (against c places i) m))))
   where
-    alike : (j : ℕ) → j < length s → against c places i j ≡ backwards c s i j
-    alike j l = rw (placed i h, placed j l) refl
+    alike : (j : ℕ) → j < m → against c places i j ≡ backwards c s i j
+    alike j l = rw (placed i (omega arith), placed j (omega arith)) refl
 
-    settle : (r : Option ℕ) → IsFirst (against c places i) (length s) r → IsFirst (backwards c s i) (length s) r
+    settle : (r : Option ℕ) → IsFirst (against c places i) m r → IsFirst (backwards c s i) m r
     settle (Some j) f = (f.0, sym (alike j f.0) ∙ f.1, λ l g. sym (alike l (omega (arith, f.0))) ∙ f.2 l g)
     settle None f = λ l g. sym (alike l g) ∙ f l g

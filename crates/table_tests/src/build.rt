@@ -1,16 +1,18 @@
-// The two graphs of a table, each of the edges of one code.
-ghost use Rattle.std.specs.Prelude.{◌≡◌, ℕ, ◌*◌, ◌<◌, ◌≤◌, true, length, None, ◌==◌};
+// The two graphs of a table, each of the edges in one direction.
+ghost use Rattle.std.specs.Prelude.{◌≡◌, ℕ, ◌≤◌, length, None, ◌==◌, slice_index};
 ghost use Rattle.graphs.specs.Edges.{edge};
 ghost use Rattle.module_set.specs.Members.{member};
-ghost use Rattle.plans.specs.Tables.{table_of};
+ghost use Rattle.plans.specs.Directions.{code_along};
 ghost use Rattle.plans.specs.Search.{first_pair};
 ghost use Rattle.plans.specs.Tests.{not_closed};
-ghost use Rattle.table_tests.specs.Closure.{missing};
-ghost use Rattle.table_tests.specs.Codes.{codes_refusal};
+ghost use Rattle.table_tests.specs.Closure.{missing, JoinsModules};
+ghost use Rattle.table_tests.specs.Codes.{table_in, codes_refusal};
 ghost use Rattle.table_tests.specs.Tested.{Drawn};
 
+use crate::table::Table;
 use graphs::Graph;
 use module_set::ModuleSet;
+use plans::Direction;
 
 // The horizontal and the vertical graph of a table.
 #[derive(Clone, Copy)]
@@ -19,47 +21,44 @@ pub struct TwoGraphs {
     pub above: Graph,
 }
 
-// The graphs of codes that pass the first tests: they lack an edge where the table is not closed.
-pub(crate) fn graphs_of(m: usize, codes: &[u8]) -> TwoGraphs
-    requires passed { codes_refusal 64 2 m codes.now ≡ None }
-    ensures drawn { Drawn m codes.now result.right result.above }
-    ensures right { (i j : ℕ) → edge result.right i j ≡ true → j < m }
-    ensures above { (i j : ℕ) → edge result.above i j ≡ true → j < m }
-    ensures missing { first_pair m (missing result.right result.above) ≡ first_pair m (not_closed m (table_of m codes.now)) }
-{
-    TwoGraphs {
-        right: graph_of(m, codes, 1),
-        above: graph_of(m, codes, 2),
+impl TwoGraphs {
+    // The graphs of a table that passes the first tests: they lack an edge where the table is not closed.
+    pub(crate) fn of(table: Table<'_>) -> TwoGraphs
+        requires passed { codes_refusal 64 2 table.modules table.codes.now ≡ None }
+        ensures drawn { Drawn table.entry.modules table.entry.codes.now result.right result.above }
+        ensures inside { JoinsModules table.entry.modules result.right result.above }
+        ensures missing { first_pair table.entry.modules (missing result.right result.above) ≡ first_pair table.entry.modules (not_closed table.entry.modules (table_in table.entry)) }
+    {
+        TwoGraphs {
+            right: graph_of(table, Direction::Right),
+            above: graph_of(table, Direction::Above),
+        }
     }
 }
-
-// The pairs that have this code, which is not 0.
-pub(crate) fn graph_of(m: usize, codes: &[u8], code: u8) -> Graph
-    requires full { length codes.now ≡ m * m }
-    requires few { m ≤ 64 }
-    requires some { 0 < code }
-    ensures { (i j : ℕ) → edge result i j ≡ (table_of m codes.now i j == code) }
+// The edges of a table in this direction.
+fn graph_of(table: Table<'_>, direction: Direction) -> Graph
+    requires few { table.modules ≤ 64 }
+    ensures { (i j : ℕ) → edge result i j ≡ (table_in table.entry i j == code_along direction) }
 {
     let mut graph = Graph::empty();
-    for i in 0..m {
-        graph.set_successors(i, row_of(m, codes, i, code));
+    // by the row's number, since chunks of the codes would ask for a test that there are modules
+    for i in 0..table.modules {
+        graph.set_successors(i, row_of(table.row(i), direction));
     }
     graph
 }
 
-// The modules that have this code in row i.
-fn row_of(m: usize, codes: &[u8], i: usize, code: u8) -> ModuleSet
-    requires full { length codes.now ≡ m * m }
-    requires few { m ≤ 64 }
-    requires some { 0 < code }
-    requires inside { i < m }
-    ensures { (j : ℕ) → member result j ≡ (table_of m codes.now i j == code) }
+// The modules to which a row tells an edge in this direction.
+fn row_of(row: &[u8], direction: Direction) -> ModuleSet
+    requires few { length row.now ≤ 64 }
+    ensures { (j : ℕ) → member result j ≡ (slice_index row.now j == code_along direction) }
 {
-    let mut row = ModuleSet::empty();
-    for j in 0..m {
-        if codes[i * m + j] == code {
-            row = row.with(j);
+    let code = u8::from(direction);
+    let mut found = ModuleSet::empty();
+    for (j, &other) in row.iter().enumerate() {
+        if other == code {
+            found = found.with(j);
         }
     }
-    row
+    found
 }

@@ -1,32 +1,41 @@
 // The test that two graphs are closed, by rows.
-ghost use Rattle.std.specs.Prelude.{◌≡◌, ℕ, ◌<◌, true};
-ghost use Rattle.graphs.specs.Edges.{edge};
+ghost use Rattle.std.specs.Prelude.{◌≡◌, ℕ};
 ghost use Rattle.module_set.specs.Members.{member};
+ghost use Rattle.plans.specs.Changes.{unless};
 ghost use Rattle.plans.specs.Search.{first_pair};
-ghost use Rattle.table_tests.specs.Closure.{missing};
+ghost use Rattle.plans.specs.Tests.{telling_pair};
+ghost use Rattle.plans.specs.declared.refusals.LoadRefusal.TheVariants.{NotClosed};
+ghost use Rattle.table_tests.specs.Closure.{lacks, missing, JoinsModules};
 
+use crate::build::TwoGraphs;
+use crate::rows::first_in_rows;
 use graphs::Graph;
 use module_set::ModuleSet;
+use plans::LoadRefusal;
 
-// The first pair without the edge that two others of one graph close.
-pub(crate) fn first_missing(m: usize, right: &Graph, above: &Graph) -> Option<(usize, usize)>
-    requires right { (i j : ℕ) → edge right.now i j ≡ true → j < m }
-    requires above { (i j : ℕ) → edge above.now i j ≡ true → j < m }
-    ensures { result ≡ first_pair m (missing right.now above.now) }
-{
-    for i in 0..m {
-        if let Some(k) = missing_from(right, above, i).first() {
-            return Some((i, k));
+impl TwoGraphs {
+    // Each edge is there that two others of one graph close.
+    pub(crate) fn check_closure(&self, modules: usize) -> Result<(), LoadRefusal>
+        requires { JoinsModules modules self.now.right self.now.above }
+        ensures { result ≡ unless (telling_pair NotClosed (first_pair modules (missing self.now.right self.now.above))) tt }
+    {
+        match first_in_rows(modules, |i| self.missing_from(i).first()) {
+            Some((i, k)) => Err(LoadRefusal::NotClosed(i, k)),
+            None => Ok(()),
         }
     }
-    None
+
+    // The modules to which i lacks an edge that two others of one graph close.
+    fn missing_from(&self, i: usize) -> ModuleSet
+        ensures { (k : ℕ) → member result k ≡ missing self.now.right self.now.above i k }
+    {
+        lacking(&self.right, i).union(lacking(&self.above, i))
+    }
 }
 
-// The modules to which i lacks an edge that two others of one graph close.
-fn missing_from(right: &Graph, above: &Graph, i: usize) -> ModuleSet
-    ensures { (k : ℕ) → member result k ≡ missing right.now above.now i k }
+// The modules to which i lacks an edge that two others of this graph close.
+fn lacking(graph: &Graph, i: usize) -> ModuleSet
+    ensures { (k : ℕ) → member result k ≡ lacks graph.now i k }
 {
-    let beside = right.two_steps(i).minus(right.successors(i));
-    let over = above.two_steps(i).minus(above.successors(i));
-    beside.union(over)
+    graph.two_steps(i).minus(graph.successors(i))
 }

@@ -1,11 +1,13 @@
 // The tests of a table's codes: its shape, its codes, its diagonal, and its pairs.
-ghost use Rattle.std.specs.Prelude.{◌≡◌, ◌*◌, ◌<◌, length, ◌==◌, nat_lt};
+ghost use Rattle.std.specs.Prelude.{◌≡◌, ◌<◌};
 ghost use Rattle.plans.specs.Changes.{unless};
 ghost use Rattle.plans.specs.Search.{first_below, first_pair};
-ghost use Rattle.plans.specs.Tables.{table_of};
-ghost use Rattle.plans.specs.Tests.{code_wrong, self_related, not_one_edge};
-ghost use Rattle.table_tests.specs.Codes.{codes_refusal};
+ghost use Rattle.plans.specs.Tests.{code_wrong, self_related, not_one_edge, telling_pair};
+ghost use Rattle.plans.specs.declared.refusals.LoadRefusal.TheVariants.{WrongCode, SelfRelated, NotOneEdge};
+ghost use Rattle.table_tests.specs.Codes.{table_in, codes_refusal, TestedTable};
 
+use crate::rows::first_in_rows;
+use crate::table::Table;
 use plans::LoadRefusal;
 
 // The first refusal of the codes of m modules that does not ask for closure: at most `limit` modules, one code
@@ -13,89 +15,67 @@ use plans::LoadRefusal;
 pub fn check_codes(limit: usize, greatest: u8, m: usize, codes: &[u8]) -> Result<(), LoadRefusal>
     ensures { result ≡ unless (codes_refusal limit greatest m codes.now) tt }
 {
-    if m > limit || !is_square(m, codes.len()) {
-        return Err(LoadRefusal::WrongShape);
-    }
-    if let Some((i, j)) = wrong_code(greatest, m, codes) {
-        return Err(LoadRefusal::WrongCode(i, j));
-    }
-    if let Some((i, j)) = self_related(m, codes) {
-        return Err(LoadRefusal::SelfRelated(i, j));
-    }
-    if let Some((i, j)) = not_one_edge(m, codes) {
-        return Err(LoadRefusal::NotOneEdge(i, j));
-    }
+    tested_table(limit, greatest, m, codes)?;
     Ok(())
 }
 
-// Whether there are m × m.
-fn is_square(m: usize, count: usize) -> bool
-    ensures { result ≡ (count == m * m) }
+// The table of codes that pass these tests, or their first refusal.
+pub(crate) fn tested_table(
+    limit: usize,
+    greatest: u8,
+    m: usize,
+    codes: &[u8],
+) -> Result<Table<'_>, LoadRefusal>
+    ensures { TestedTable limit greatest m codes.now result }
 {
-    match m.checked_mul(m) {
-        Some(square) => count == square,
-        None => false,
+    if m > limit {
+        return Err(LoadRefusal::WrongShape);
     }
+    let table = Table::new(m, codes).ok_or(LoadRefusal::WrongShape)?;
+    table.check_greatest(greatest)?;
+    table.check_diagonal()?;
+    table.check_pairs()?;
+    Ok(table)
 }
 
-// The first pair with a code above the greatest.
-fn wrong_code(greatest: u8, m: usize, codes: &[u8]) -> Option<(usize, usize)>
-    requires { length codes.now ≡ m * m }
-    ensures { result ≡ first_pair m (code_wrong greatest (table_of m codes.now)) }
-{
-    for k in 0..codes.len() {
-        if is_wrong(greatest, codes[k]) {
-            return Some((k / m, k % m));
+impl<'a> Table<'a> {
+    // No code is above the greatest.
+    fn check_greatest(self, greatest: u8) -> Result<(), LoadRefusal>
+        ensures { result ≡ unless (telling_pair WrongCode (first_pair self.entry.modules (code_wrong greatest (table_in self.entry)))) tt }
+    {
+        for (k, &code) in self.codes.iter().enumerate() {
+            if code > greatest {
+                return Err(LoadRefusal::WrongCode(k / self.modules, k % self.modules));
+            }
+        }
+        Ok(())
+    }
+
+    // No module is related to itself.
+    fn check_diagonal(self) -> Result<(), LoadRefusal>
+        ensures { result ≡ unless (telling_pair SelfRelated (first_pair self.entry.modules (self_related (table_in self.entry)))) tt }
+    {
+        match (0..self.modules).find(|&i| self.code(i, i) > 0) {
+            Some(i) => Err(LoadRefusal::SelfRelated(i, i)),
+            None => Ok(()),
         }
     }
-    None
-}
 
-// Whether a code is above the greatest.
-fn is_wrong(greatest: u8, code: u8) -> bool
-    ensures { result ≡ nat_lt greatest code }
-{
-    code > greatest
-}
-
-// The first module that is related to itself, as a pair.
-fn self_related(m: usize, codes: &[u8]) -> Option<(usize, usize)>
-    requires { length codes.now ≡ m * m }
-    ensures { result ≡ first_pair m (self_related (table_of m codes.now)) }
-{
-    for i in 0..m {
-        if codes[i * m + i] > 0 {
-            return Some((i, i));
+    // Each two modules have one edge.
+    fn check_pairs(self) -> Result<(), LoadRefusal>
+        ensures { result ≡ unless (telling_pair NotOneEdge (first_pair self.entry.modules (not_one_edge (table_in self.entry)))) tt }
+    {
+        match first_in_rows(self.modules, |i| self.not_one_edge_with(i)) {
+            Some((i, j)) => Err(LoadRefusal::NotOneEdge(i, j)),
+            None => Ok(()),
         }
     }
-    None
-}
 
-// The first pair, the lower number first, without an edge or with two.
-fn not_one_edge(m: usize, codes: &[u8]) -> Option<(usize, usize)>
-    requires { length codes.now ≡ m * m }
-    ensures { result ≡ first_pair m (not_one_edge (table_of m codes.now)) }
-{
-    for i in 0..m {
-        if let Some(j) = not_one_edge_with(m, codes, i) {
-            return Some((i, j));
-        }
+    // The first module above i that has no edge with i, or two.
+    fn not_one_edge_with(self, i: usize) -> Option<usize>
+        requires inside { i < self.modules }
+        ensures { result ≡ first_below self.entry.modules (not_one_edge (table_in self.entry) i) }
+    {
+        (i + 1..self.modules).find(|&j| (self.code(i, j) > 0) == (self.code(j, i) > 0))
     }
-    None
-}
-
-// The first module above i that has no edge with i, or two.
-fn not_one_edge_with(m: usize, codes: &[u8], i: usize) -> Option<usize>
-    requires full { length codes.now ≡ m * m }
-    requires inside { i < m }
-    ensures { result ≡ first_below m (not_one_edge (table_of m codes.now) i) }
-{
-    for j in i + 1..m {
-        let there = codes[i * m + j] > 0;
-        let back = codes[j * m + i] > 0;
-        if there == back {
-            return Some(j);
-        }
-    }
-    None
 }

@@ -5,6 +5,8 @@ mod build;
 mod closure;
 mod codes;
 mod order;
+mod rows;
+mod table;
 mod tested;
 
 pub use build::TwoGraphs;

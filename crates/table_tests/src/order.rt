@@ -1,93 +1,86 @@
 // The tests of a packing sequence: its places, and the edges along it.
-ghost use Rattle.std.specs.Prelude.{◌≡◌, ℕ, ◌*◌, ◌<◌, ◌≤◌, true, false, length, slice_index, slice_set};
-ghost use Rattle.plans.specs.Changes.{unless};
-ghost use Rattle.plans.specs.Search.{first_below, first_pair, place_of};
-ghost use Rattle.plans.specs.Tables.{table_of};
-ghost use Rattle.plans.specs.Tests.{place_wrong, backwards, sequence_refusal};
-ghost use Rattle.table_tests.specs.Places.{against};
+ghost use Rattle.std.specs.Prelude.{◌≡◌, ◌≤◌, length};
 
+use crate::rows::first_in_rows;
+use crate::table::Table;
+use module_set::ModuleSet;
 use plans::LoadRefusal;
 
-// The first refusal of a sequence for a table of as many modules.
-pub(crate) fn check_sequence(codes: &[u8], sequence: &[usize]) -> Result<(), LoadRefusal>
-    requires full { length codes.now ≡ length sequence.now * length sequence.now }
-    requires few { length sequence.now ≤ 64 }
-    ensures { result ≡ unless (sequence_refusal (table_of (length sequence.now) codes.now) sequence.now) tt }
-{
-    if let Some(place) = wrong_place(sequence) {
-        return Err(LoadRefusal::WrongPlace(place));
-    }
-    if let Some((i, j)) = backward_edge(codes, sequence) {
-        return Err(LoadRefusal::Backwards(i, j));
-    }
-    Ok(())
+// A table of at most 64 modules, with a sequence of as many.
+#[derive(Clone, Copy)]
+pub(crate) struct Sequenced<'a> {
+    pub(crate) table: Table<'a>,
+    pub(crate) sequence: &'a [usize],
+    ghost few: { table.modules ≤ 64 },
+    ghost long: { length sequence.now ≡ table.modules },
 }
 
-// The first place with no module or with one that stands earlier too, by marking each module that is met.
-fn wrong_place(sequence: &[usize]) -> Option<usize>
-    requires { length sequence.now ≤ 64 }
-    ensures { result ≡ first_below (length sequence.now) (place_wrong sequence.now) }
-{
-    let mut marks = [false; 64];
-    for k in 0..sequence.len() {
-        let module = sequence[k];
-        if module >= sequence.len() || marks[module] {
-            return Some(k);
+impl<'a> Sequenced<'a> {
+    ghost use Rattle.std.specs.Prelude.{ℕ, ◌<◌, false, slice_index};
+    ghost use Rattle.std.specs.Option.{option_map};
+    ghost use Rattle.plans.specs.Changes.{unless};
+    ghost use Rattle.plans.specs.Search.{first_below, first_pair, place_of};
+    ghost use Rattle.plans.specs.Tests.{place_wrong, backwards, sequence_refusal, telling_pair};
+    ghost use Rattle.plans.specs.declared.refusals.LoadRefusal.TheVariants.{WrongPlace, Backwards};
+    ghost use Rattle.table_tests.specs.Codes.{table_in};
+    ghost use Rattle.table_tests.specs.Places.{against};
+
+    // The first refusal of the sequence.
+    pub(crate) fn check(self) -> Result<(), LoadRefusal>
+        ensures { result ≡ unless (sequence_refusal (table_in self.entry.table) self.entry.sequence.now) tt }
+    {
+        self.check_places()?;
+        self.check_order()
+    }
+
+    // Each place has a module that does not stand earlier too, as the modules that were met tell.
+    fn check_places(self) -> Result<(), LoadRefusal>
+        ensures { result ≡ unless (option_map WrongPlace (first_below (length self.entry.sequence.now) (place_wrong self.entry.sequence.now))) tt }
+    {
+        let mut met = ModuleSet::empty();
+        for (place, &module) in self.sequence.iter().enumerate() {
+            if module >= self.sequence.len() || met.contains(module) {
+                return Err(LoadRefusal::WrongPlace(place));
+            }
+            met = met.with(module);
         }
-        mark(&mut marks, module);
+        Ok(())
     }
-    None
-}
 
-// Marks a module as met.
-fn mark(marks: &mut [bool; 64], module: usize)
-    requires { «module» < 64 }
-    ensures { marks.new ≡ slice_set marks.old «module» true }
-{
-    marks[module] = true;
-}
-
-// The first pair whose edge points backwards.
-fn backward_edge(codes: &[u8], sequence: &[usize]) -> Option<(usize, usize)>
-    requires full { length codes.now ≡ length sequence.now * length sequence.now }
-    requires few { length sequence.now ≤ 64 }
-    requires once { (k : ℕ) → k < length sequence.now → place_wrong sequence.now k ≡ false }
-    ensures { result ≡ first_pair (length sequence.now) (backwards (table_of (length sequence.now) codes.now) sequence.now) }
-{
-    let m = sequence.len();
-    let places = places_of(sequence);
-    for i in 0..m {
-        if let Some(j) = backward_from(m, codes, &places, i) {
-            return Some((i, j));
-        }
-    }
-    None
-}
-
-// The first module that stands before i and to which i has an edge.
-fn backward_from(m: usize, codes: &[u8], places: &[usize; 64], i: usize) -> Option<usize>
-    requires full { length codes.now ≡ m * m }
-    requires few { m ≤ 64 }
-    requires inside { i < m }
-    ensures { result ≡ first_below m (against (table_of m codes.now) places.now i) }
-{
-    for j in 0..m {
-        if codes[i * m + j] > 0 && places[j] < places[i] {
-            return Some(j);
+    // No edge points backwards.
+    fn check_order(self) -> Result<(), LoadRefusal>
+        requires once { (k : ℕ) → k < length self.sequence.now → place_wrong self.sequence.now k ≡ false }
+        ensures { result ≡ unless (telling_pair Backwards (first_pair (length self.entry.sequence.now) (backwards (table_in self.entry.table) self.entry.sequence.now))) tt }
+    {
+        let places = self.places();
+        match first_in_rows(self.table.modules, |i| self.backward_from(&places, i)) {
+            Some((i, j)) => Err(LoadRefusal::Backwards(i, j)),
+            None => Ok(()),
         }
     }
-    None
-}
 
-// The place of each module.
-fn places_of(sequence: &[usize]) -> [usize; 64]
-    requires few { length sequence.now ≤ 64 }
-    requires once { (k : ℕ) → k < length sequence.now → place_wrong sequence.now k ≡ false }
-    ensures { (i : ℕ) → i < length sequence.now → slice_index result i ≡ place_of sequence.now i }
-{
-    let mut places = [0; 64];
-    for k in 0..sequence.len() {
-        places[sequence[k]] = k;
+    // The first module that stands before i and to which i has an edge.
+    fn backward_from(self, places: &[usize; 64], i: usize) -> Option<usize>
+        requires inside { i < self.table.modules }
+        ensures { result ≡ first_below self.entry.table.modules (against (table_in self.entry.table) places.now i) }
+    {
+        let own = places[i];
+        self.table
+            .row(i)
+            .iter()
+            .zip(places)
+            .position(|(&code, &place)| code > 0 && place < own)
     }
-    places
+
+    // The place of each module.
+    fn places(self) -> [usize; 64]
+        requires once { (k : ℕ) → k < length self.sequence.now → place_wrong self.sequence.now k ≡ false }
+        ensures { (i : ℕ) → i < length self.entry.sequence.now → slice_index result i ≡ place_of self.entry.sequence.now i }
+    {
+        let mut places = [0; 64];
+        for (place, &module) in self.sequence.iter().enumerate() {
+            places[module] = place;
+        }
+        places
+    }
 }

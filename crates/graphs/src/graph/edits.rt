@@ -1,8 +1,7 @@
 // Changing the edges of a graph, row by row.
 ghost use Rattle.std.specs.Prelude.{◌≡◌, ℕ, ◌<◌, not, ◌&&◌, ◌||◌, if◌then◌else◌, ◌==◌, nat_lt};
-ghost use Rattle.graphs.specs.Edges.{edge, swapped};
+ghost use Rattle.graphs.specs.Edges.{edge, swapped, row_of, RowChanged};
 ghost use Rattle.module_set.specs.Members.{member};
-ghost use Rattle.plans.specs.Changes.{exchange};
 
 use super::Graph;
 use module_set::ModuleSet;
@@ -13,7 +12,7 @@ impl Graph {
         ensures { (k j : ℕ) → edge self.new k j ≡ (if nat_lt k 64 && k == i then member to j else edge self.old k j) }
     {
         if i < 64 {
-            self.set_row(i, to);
+            self.rows[i] = to;
         }
     }
 
@@ -21,21 +20,24 @@ impl Graph {
     pub fn connect(&mut self, from: ModuleSet, to: ModuleSet)
         ensures { (i j : ℕ) → edge self.new i j ≡ (edge self.old i j || (member from i && member to j)) }
     {
-        for i in 0..64 {
-            if from.contains(i) {
-                self.set_row(i, self.row(i).union(to));
-            }
-        }
+        self.change_rows(from, |row| row.union(to));
     }
 
     // Takes out every edge from one of the first set to one of the second.
     pub fn disconnect(&mut self, from: ModuleSet, to: ModuleSet)
         ensures { (i j : ℕ) → edge self.new i j ≡ (edge self.old i j && not (member from i && member to j)) }
     {
-        for i in 0..64 {
-            if from.contains(i) {
-                self.set_row(i, self.row(i).minus(to));
-            }
+        self.change_rows(from, |row| row.minus(to));
+    }
+
+    // Gives each module of a set other successors, made of those that it had.
+    fn change_rows<F: Fn(ModuleSet) -> ModuleSet>(&mut self, of: ModuleSet, change: F)
+        requires { F.IsAlwaysCallable change }
+        ensures { (i : ℕ) → i < 64 → RowChanged (F.post change) (member of i) (row_of self.old i) (row_of self.new i) }
+    {
+        for i in of {
+            let row = &mut self.rows[i];
+            *row = change(*row);
         }
     }
 
@@ -44,30 +46,10 @@ impl Graph {
         ensures { (i j : ℕ) → edge self.new i j ≡ edge self.old (swapped a b i) (swapped a b j) }
     {
         if a < 64 && b < 64 {
-            self.swap_from(a, b);
-            self.swap_to(a, b);
-        }
-    }
-
-    // Lets a and b take each other's place where edges begin.
-    fn swap_from(&mut self, a: usize, b: usize)
-        requires first { a < 64 }
-        requires second { b < 64 }
-        ensures { (i j : ℕ) → edge self.new i j ≡ edge self.old (exchange a b i) j }
-    {
-        let (from_a, from_b) = (self.row(a), self.row(b));
-        self.set_row(a, from_b);
-        self.set_row(b, from_a);
-    }
-
-    // Lets a and b take each other's place where edges end.
-    fn swap_to(&mut self, a: usize, b: usize)
-        requires first { a < 64 }
-        requires second { b < 64 }
-        ensures { (i j : ℕ) → edge self.new i j ≡ edge self.old i (exchange a b j) }
-    {
-        for i in 0..64 {
-            self.set_row(i, self.row(i).exchanged(a, b));
+            self.rows.swap(a, b);
+            for row in &mut self.rows {
+                *row = row.exchanged(a, b);
+            }
         }
     }
 }

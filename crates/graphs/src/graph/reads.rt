@@ -1,6 +1,6 @@
 // Making a graph and reading its edges.
-ghost use Rattle.std.specs.Prelude.{◌≡◌, ℕ, ◌+◌, false, ◌||◌};
-ghost use Rattle.graphs.specs.Edges.{edge, steps_below, two_steps};
+ghost use Rattle.std.specs.Prelude.{◌≡◌, ℕ, false};
+ghost use Rattle.graphs.specs.Edges.{edge, two_steps};
 ghost use Rattle.module_set.specs.Members.{member};
 
 use super::Graph;
@@ -11,7 +11,9 @@ impl Graph {
     pub fn empty() -> Graph
         ensures { (i j : ℕ) → edge result i j ≡ false }
     {
-        Graph::uniform(ModuleSet::empty())
+        Graph {
+            rows: [ModuleSet::empty(); 64],
+        }
     }
 
     // Whether there is an edge from i to j.
@@ -22,11 +24,12 @@ impl Graph {
     }
 
     // The modules to which i has an edge.
+    #[tactic(auto, using(crate::proofs::Rows::edge_inside, crate::proofs::Rows::edge_outside))]
     pub fn successors(&self, i: usize) -> ModuleSet
         ensures { (j : ℕ) → member result j ≡ edge self.now i j }
     {
         if i < 64 {
-            self.row(i)
+            self.rows[i]
         } else {
             ModuleSet::empty()
         }
@@ -37,8 +40,8 @@ impl Graph {
         ensures { (i : ℕ) → member result i ≡ edge self.now i j }
     {
         let mut found = ModuleSet::empty();
-        for i in 0..64 {
-            if self.has_edge(i, j) {
+        for (i, row) in self.rows.iter().enumerate() {
+            if row.contains(j) {
                 found = found.with(i);
             }
         }
@@ -50,20 +53,9 @@ impl Graph {
         ensures { (k : ℕ) → member result k ≡ two_steps self.now i k }
     {
         let mut reached = ModuleSet::empty();
-        for j in 0..64 {
-            reached = reached.union(self.through(i, j));
+        for j in self.successors(i) {
+            reached = reached.union(self.successors(j));
         }
         reached
-    }
-
-    // The modules that i reaches in two steps through j.
-    fn through(&self, i: usize, j: usize) -> ModuleSet
-        ensures { (k : ℕ) → steps_below self.now i (j + 1) k ≡ (steps_below self.now i j k || member result k) }
-    {
-        if self.has_edge(i, j) {
-            self.successors(j)
-        } else {
-            ModuleSet::empty()
-        }
     }
 }

@@ -1,13 +1,9 @@
--- All modules are below the counter in the end.
-use Rattle.std.proofs.Common.{not, ◌&&◌, ap, ◌∙◌}
-use Rattle.graphs.proofs.Rows.{all_members}
-use Rattle.graphs.specs.Edges.{edge}
-use Rattle.module_set.specs.Members.{member}
+-- The rows of the first set lose the second.
+use Rattle.std.proofs.Common.{rules, not, ◌&&◌}
+use Rattle.graphs.proofs.Rows.{rows_changed, and_all}
 use Rattle.graphs.proofs.graph.Graph.disconnect.Goals as goal
 
 pub returns : goal.returns
 returns c =
-    λ k j.
-    c.loop-i.invariant k j
-    ∙ ap (λ b. edge c.args.self.now k j && not b)
-    (all_members c.args.from c.loop-i.i k (member c.args.to j) c.loop-i-test.false)
+    rows_changed (λ a b. a && not b) _ c.args.self.now c.change_rows.new.self c.args.from c.args.to c.change_rows.ensures
+    (λ x y made j. search rules) and_all

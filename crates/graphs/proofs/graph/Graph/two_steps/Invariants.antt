@@ -1,8 +1,6 @@
--- What is reached is what the successors below the counter lead to.
-use Rattle.std.proofs.Common.{◌≡◌, ℕ}
-use Rattle.graphs.specs.Edges.{steps_below}
-use Rattle.module_set.specs.Members.{member}
+-- What is reached, and what the successors that are left lead to, is all.
+use Rattle.graphs.proofs.Reaching.{Reaching}
 use Rattle.graphs.proofs.graph.Graph.two_steps.Given as goal
 
 abbrev pub invariant-loop-j : goal.invariant-loop-j
-invariant-loop-j l = (k : ℕ) → member l.reached k ≡ steps_below l.self l.i l.j k
+invariant-loop-j l = Reaching l.self l.i l.reached l.j-iterator.rest

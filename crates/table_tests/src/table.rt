@@ -1,0 +1,45 @@
+// A table of codes, row after row, as it is given to a load.
+ghost use Rattle.std.specs.Prelude.{◌≡◌, ◌*◌, length};
+
+// The codes of some modules: one for each ordered pair of them.
+#[derive(Clone, Copy)]
+pub(crate) struct Table<'a> {
+    pub(crate) modules: usize,
+    pub(crate) codes: &'a [u8],
+    ghost full: { length codes.now ≡ modules * modules },
+}
+
+impl<'a> Table<'a> {
+    ghost use Rattle.std.specs.Prelude.{ℕ, ◌<◌, slice_index};
+    ghost use Rattle.table_tests.specs.Codes.{table_in, MadeOf};
+
+    // The table of m × m codes; none where there are more or fewer.
+    pub(crate) fn new(modules: usize, codes: &'a [u8]) -> Option<Table<'a>>
+        ensures { MadeOf modules codes.now result }
+    {
+        if modules.checked_mul(modules) == Some(codes.len()) {
+            Some(Table { modules, codes })
+        } else {
+            None
+        }
+    }
+
+    // The codes of row i, none where i is no module.
+    pub(crate) fn row(self, i: usize) -> &'a [u8]
+        ensures codes { (j : ℕ) → slice_index result.now j ≡ table_in self.entry i j }
+        ensures long { i < self.entry.modules → length result.now ≡ self.entry.modules }
+    {
+        if i < self.modules {
+            &self.codes[i * self.modules..(i + 1) * self.modules]
+        } else {
+            &[]
+        }
+    }
+
+    // The code at (i, j), 0 outside the table.
+    pub(crate) fn code(self, i: usize, j: usize) -> u8
+        ensures { result ≡ table_in self.entry i j }
+    {
+        self.row(i).get(j).copied().unwrap_or(0)
+    }
+}
