@@ -1,5 +1,5 @@
 -- Sides that were read, with one border each.
-use Rattle.std.specs.Prelude.{ℕ, ◌<◌, ◌≤◌, List, map, slice_index_or}
+use Rattle.std.specs.Prelude.{◌≤◌, List, map}
 use Rattle.lengths.specs.CountedLengths.{count_of}
 use Rattle.lengths.specs.declared.counted.Counted.{Counted}
 use Rattle.lengths.specs.declared.plain.Plain.{Plain}
@@ -7,7 +7,6 @@ use Rattle.listing.specs.Whole.{bordered}
 use Rattle.plans.specs.CarriedPackings.{carry_sides}
 use Rattle.plans.specs.Kinds.{Count}
 use Rattle.plans.specs.declared.measures.Sides.{Sides}
-use Rattle.sheets.specs.Lists.{sides_of}
 
 -- Two sides, each with one border.
 abbrev pub bordered_sides : Sides Plain → Sides Count
