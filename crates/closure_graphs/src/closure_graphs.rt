@@ -7,7 +7,8 @@ ghost use Rattle.table_tests.specs.Tested.{Shows};
 use table_tests::TwoGraphs;
 
 // The modules right of each and above each, and the first `size` places of the sequence. The floorplan of
-// these is feasible, and each graph has its edges and no other.
+// these is feasible, and each graph has its edges and no other. The list has room for 64, since a change may not use
+// the heap.
 #[derive(Drop)]
 pub struct ClosureGraphs {
     pub(crate) size: usize,

@@ -14,10 +14,7 @@ fn with_border(side: Plain) -> Counted
     requires { PossibleSide side }
     ensures { count_of result ≡ bordered side.0 }
 {
-    match Counted::new(side.0, 1) {
-        Ok(counted) => counted,
-        Err(_) => unreachable!(),
-    }
+    Counted::new(side.0, 1).unwrap()
 }
 
 // The sides of one module, each with one border.

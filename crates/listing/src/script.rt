@@ -17,7 +17,7 @@ use representations::Representation;
 use sheets::{Command, Place, read_command};
 use std::alloc::AllocError;
 
-// The word of a change.
+// The word of a change, as bytes like every word of a sheet.
 fn change_word(wanted: Change) -> &'static [u8]
     ensures { result.now ≡ change_word wanted }
 {

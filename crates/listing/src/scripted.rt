@@ -7,7 +7,8 @@ use planner::{Decision, Plan};
 use plans::{Change, PlanChangeRefusal, TrialRefusal};
 use representations::Representation;
 
-// The plan, and the decision on its trial if one is open.
+// The plan, and the decision on its trial if one is open. Where a step can't fail there is no `unwrap`, since what it
+// would let go holds a decision. Keep and undo are apart: a closure for their one call would need three more clauses.
 pub(crate) struct Scripted<R: Representation> {
     pub plan: Plan<R>,
     hand: Option<Decision>,

@@ -15,7 +15,7 @@ impl<R: Representation> Plan<R> {
         self.current.representation.modules()
     }
 
-    // 1 where i is left of j, 2 where i is below j, else 0, also outside the plan.
+    // 1 where i is left of j, 2 where i is below j, else 0, also outside the plan: the byte that a load takes.
     pub fn code(&self, i: usize, j: usize) -> u8
         ensures { result ≡ table_in (state_of R.Representation.means self.now).current.plan i j }
     {

@@ -10,6 +10,7 @@ use plans::{ChangeRefusal, Direction, LoadRefusal};
 #[derive(Drop)]
 pub struct Transposed<R>(pub R);
 
+// A code with the axes exchanged; as any byte can stand in a load, it need not be that of a direction.
 fn exchanged_code(code: u8) -> u8
     ensures { result ≡ other_code code }
 {

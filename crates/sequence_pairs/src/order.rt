@@ -2,7 +2,8 @@
 ghost use Rattle.std.specs.Prelude.{◌≡◌, ◌<◌, ◌≤◌, cond, length, nat_lt, slice_index};
 ghost use Rattle.sequence_pairs.specs.Keeping.{AtPlaces, Distinct};
 
-// Up to 64 modules, in the first places of a list, and the place of each of them.
+// Up to 64 modules, in the first places of a list, and the place of each of them. Both lists have room for 64, since
+// a change may not use the heap.
 #[derive(Clone, Copy)]
 pub(crate) struct Order {
     pub(crate) count: usize,

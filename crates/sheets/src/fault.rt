@@ -96,7 +96,7 @@ impl Wrong {
 }
 
 impl Sheet {
-    // The number that the listing prints.
+    // The number that the listing prints; it is no refusal's, and a `From` would not say what it is for.
     pub fn number(self) -> u8
         ensures { result ≡ sheet_number self }
     {

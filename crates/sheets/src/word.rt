@@ -59,7 +59,7 @@ pub(crate) fn read_word<W: Spelled>(line: Line<'_>) -> Result<W, Finding>
     W::spelled_by(line.field(0, 4)).ok_or(line.fault(Wrong::UnknownWord, Sheet::Plan, 0, 4))
 }
 
-// The relation code that a letter stands for.
+// The relation code that a letter stands for: the byte that a load takes.
 pub(crate) fn code_of(letter: u8) -> Option<u8>
     ensures { result ≡ letter_code letter }
 {

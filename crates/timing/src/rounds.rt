@@ -108,6 +108,7 @@ fn is_tried<R: Representation>(
         return false;
     };
     let packed = plan.pack(sides, results).is_ok();
+    // No `unwrap`: a refusal would hold a decision, which can't be let go.
     match plan.undo(decision) {
         Ok(()) => packed,
         Err(_) => unreachable!(),
