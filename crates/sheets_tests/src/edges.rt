@@ -5,14 +5,16 @@ use plans::Refusal;
 use sheets::parse;
 use std::test::Fail;
 
+// What the lists of sides hold before.
+const ONE: Sides<Plain> = Sides {
+    width: Plain(1),
+    height: Plain(1),
+};
+
 // A list of one place too few is told, and every list stays as it was.
 #[test]
 fn a_place_too_few(rt: HostRuntime) -> Result<(), Fail> {
-    let one = Sides {
-        width: Plain(1),
-        height: Plain(1),
-    };
-    let mut sides = [one; 64];
+    let mut sides = [ONE; 64];
     let mut codes = [7u8; 4096];
     let mut places = [7usize; 63];
     let Err(fault) = parse(b"", b"", &mut sides, &mut codes, &mut places) else {
@@ -29,11 +31,7 @@ fn a_place_too_few(rt: HostRuntime) -> Result<(), Fail> {
 // What is read stands in the lists, and zero behind it.
 #[test]
 fn read_and_zero_behind(rt: HostRuntime) -> Result<(), Fail> {
-    let one = Sides {
-        width: Plain(1),
-        height: Plain(1),
-    };
-    let mut sides = [one; 65];
+    let mut sides = [ONE; 65];
     let mut codes = [7u8; 4097];
     let mut places = [7usize; 65];
     let sizes = b"       4       2\n       3      30\n";
