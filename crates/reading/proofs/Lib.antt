@@ -3,3 +3,4 @@ pub mod Passed
 pub mod Loads
 pub mod Outcomes
 pub mod AfterParsing
+pub mod Told

@@ -136,17 +136,17 @@ impl Finding {
         }
     }
 
-    // A fault of the field that stands `offset` bytes into the line at a place.
+    // A fault of the field that stands `offset` bytes into the line at a place. What is told stays at the largest
+    // number that there is, which no sheet reaches.
     pub fn field(wrong: Wrong, sheet: Sheet, at: Place, offset: usize, width: usize) -> Finding
-        requires { at.offset + offset + 1 < 2 ^ 64 }
-        ensures { result ≡ field_finding wrong sheet at.line at.offset offset width }
+        ensures { at.offset + offset + 1 < 2 ^ 64 → result ≡ field_finding wrong sheet at.line at.offset offset width }
     {
         Finding {
             wrong,
             sheet,
             line: at.line,
-            column: offset + 1,
-            from: at.offset + offset,
+            column: offset.saturating_add(1),
+            from: at.offset.saturating_add(offset),
             width,
         }
     }

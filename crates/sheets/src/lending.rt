@@ -5,19 +5,22 @@ ghost use Rattle.sheets.specs.Parsing.{Tells, of_sheet};
 use crate::fault::{Fault, Finding, Sheet};
 
 impl Finding {
-    // The fault that tells this, with its field as a part of the sheet.
+    // The fault that tells this, with its field as a part of the sheet; an empty part where the sheet has no such field.
     pub fn lend<'a>(self, sheet: &'a [u8]) -> Fault<'a>
-        requires { self.from + self.width ≤ length sheet.now }
-        ensures { Tells sheet.entry self result }
+        ensures { self.from + self.width ≤ length sheet.entry.now → Tells sheet.entry self result }
     {
-        let from = self.from;
-        let end = from + self.width;
+        let end = self.from.saturating_add(self.width);
+        let field = if end <= sheet.len() {
+            &sheet[self.from..end]
+        } else {
+            &sheet[..0]
+        };
         Fault {
             wrong: self.wrong,
             sheet: self.sheet,
             line: self.line,
             column: self.column,
-            field: &sheet[from..end],
+            field,
         }
     }
 
