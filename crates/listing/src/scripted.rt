@@ -1,14 +1,24 @@
 // A plan under the commands of a script: the call that each makes, with the decision on an open trial kept at hand.
 ghost use Rattle.listing.specs.Deciding.{AtHand, Does};
 ghost use Rattle.planner.specs.States.{state_of};
-ghost use Rattle.std.specs.Prelude.{◌≡◌};
+ghost use Rattle.std.specs.Prelude.{◌≡◌, IsOk};
 
-use planner::{Decision, Plan};
+use planner::{Decision, Plan, Undecided};
 use plans::{Change, PlanChangeRefusal, TrialRefusal};
 use representations::Representation;
 
-// The plan, and the decision on its trial if one is open. Where a step can't fail there is no `unwrap`, since what it
-// would let go holds a decision. Keep and undo are apart: a closure for their one call would need three more clauses.
+// An end of a trial that is not refused. There is no `unwrap` here: a refusal holds a decision, which can't be let go.
+fn ended(answer: Result<(), Undecided>)
+    requires { IsOk answer }
+{
+    match answer {
+        Ok(()) => {}
+        Err(_) => unreachable!(),
+    }
+}
+
+// The plan, and the decision on its trial if one is open. Keep and undo are apart: a closure for their one call would
+// need three more clauses.
 pub(crate) struct Scripted<R: Representation> {
     pub plan: Plan<R>,
     hand: Option<Decision>,
@@ -44,10 +54,8 @@ impl<R: Representation> Scripted<R> {
         ensures { Does (model_keep (state_of R.Representation.means self.old.plan)) result (state_of R.Representation.means self.new.plan) }
     {
         let decision = self.hand.take().ok_or(TrialRefusal::NoTrial)?;
-        match self.plan.keep(decision) {
-            Ok(()) => Ok(()),
-            Err(_) => unreachable!(),
-        }
+        ended(self.plan.keep(decision));
+        Ok(())
     }
 
     // Undoes the change on trial, if there is one.
@@ -55,10 +63,8 @@ impl<R: Representation> Scripted<R> {
         ensures { Does (model_undo (state_of R.Representation.means self.old.plan)) result (state_of R.Representation.means self.new.plan) }
     {
         let decision = self.hand.take().ok_or(TrialRefusal::NoTrial)?;
-        match self.plan.undo(decision) {
-            Ok(()) => Ok(()),
-            Err(_) => unreachable!(),
-        }
+        ended(self.plan.undo(decision));
+        Ok(())
     }
 
     // Undoes a trial that is still open, and gives the plan.
@@ -67,10 +73,7 @@ impl<R: Representation> Scripted<R> {
     {
         let Scripted { mut plan, hand } = self;
         if let Some(last) = hand {
-            match plan.undo(last) {
-                Ok(()) => {}
-                Err(_) => unreachable!(),
-            }
+            ended(plan.undo(last));
         }
         plan
     }
