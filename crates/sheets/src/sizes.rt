@@ -8,13 +8,13 @@ ghost use Rattle.sheets.specs.declared.fault.Sheet.TheVariants as sheets;
 
 use crate::fault::{Finding, Sheet, Wrong};
 use crate::line::Line;
-use lengths::{Plain, Sides};
+use lengths::{Length, Plain, Sides};
 
 // Whether a module can have this side.
 fn is_side(side: u32) -> bool
     ensures { result ≡ is_side side }
 {
-    1 <= side && side <= 100_000
+    Plain(side).is_side()
 }
 
 // The side in the field that stands `offset` bytes into a line.
