@@ -62,7 +62,7 @@ fn line_length(bytes: &[u8]) -> usize {
         .unwrap_or(bytes.len())
 }
 
-// The number that the digits among the bytes make.
+// The number that the digits among the bytes make; `parse` would refuse what else may stand there.
 fn number(bytes: &[u8]) -> usize {
     bytes
         .iter()

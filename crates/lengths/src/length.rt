@@ -26,7 +26,7 @@ pub trait Length: Copy {
         if self.at_most(other) { other } else { self }
     }
 
-    // Whether this is at most the other.
+    // Whether this is at most the other. It is not provided: that would ask of every kind an order of Rust's own.
     fn at_most(self, other: Self) -> bool
         ensures { result ≡ kind.at_most self other };
 

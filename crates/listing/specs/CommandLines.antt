@@ -12,8 +12,8 @@ use Rattle.sheets.specs.declared.command.Command.{Command}
 use Rattle.sheets.specs.declared.command.Command.TheVariants as commands
 
 -- 0, or the number of a refusal.
-abbrev pub answer_number : {E : Type 0} → (E → ℕ) → Result (Unit {0}) E → ℕ
-answer_number number (Ok u) = 0
+abbrev pub answer_number : {T E : Type 0} → (E → ℕ) → Result T E → ℕ
+answer_number number (Ok x) = 0
 answer_number number (Err e) = number e
 
 -- The word of a change.

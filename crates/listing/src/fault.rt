@@ -15,8 +15,8 @@ pub(crate) fn append_fault(out: &mut Vec<u8>, fault: Fault<'_>) -> Result<(), Al
         out,
         b"FAIL",
         &[
-            Column(4, fault.wrong.number() as u64),
-            Column(4, fault.sheet.number() as u64),
+            Column(4, u64::from(fault.wrong.number())),
+            Column(4, u64::from(fault.sheet.number())),
             Column(6, fault.line as u64),
             Column(6, fault.column as u64),
         ],

@@ -1,9 +1,11 @@
 // The lines of the listing: a word, numbers in columns, and byte 10.
+ghost use Rattle.listing.specs.CommandLines.{answer_number};
 ghost use Rattle.listing.specs.Line.{Appends, line_text, word_line};
 ghost use Rattle.listing.specs.Padded.{padded};
 ghost use Rattle.sheets.specs.Fields.{field_number};
 ghost use Rattle.std.specs.Prelude.{◌≡◌, Some, OnOk};
 
+use plans::Refusal;
 use std::alloc::AllocError;
 
 // A width and a number that is right-aligned in it; a longer one is written whole.
@@ -37,8 +39,13 @@ pub(crate) fn append_line(
 }
 
 // Appends the line of a command: its word, and 0 or the number of its refusal.
-pub(crate) fn append_answer(out: &mut Vec<u8>, word: &[u8], number: u16) -> Result<(), AllocError>
-    ensures { Appends out.old.items out.new.items (word_line word.now number) result }
+pub(crate) fn append_answer<T, E: Refusal>(
+    out: &mut Vec<u8>,
+    word: &[u8],
+    answer: &Result<T, E>,
+) -> Result<(), AllocError>
+    ensures { Appends out.old.items out.new.items (word_line word.now (answer_number E.Refusal.number_of answer.now)) result }
 {
-    append_line(out, word, &[Column(4, number as u64)])
+    let number = answer.as_ref().err().map_or(0, Refusal::number);
+    append_line(out, word, &[Column(4, u64::from(number))])
 }

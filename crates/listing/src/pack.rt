@@ -6,9 +6,10 @@ ghost use Rattle.planner.specs.States.{state_of};
 
 use crate::lines::append_answer;
 use crate::packed::append_packing;
-use lengths::{Counted, Length};
+use lengths::Counted;
+use packing::unplaced;
 use planner::Plan;
-use plans::{Placed, Refusal, Sides};
+use plans::Sides;
 use representations::Representation;
 use std::alloc::AllocError;
 
@@ -20,19 +21,12 @@ pub(crate) fn append_pack<R: Representation>(
 ) -> Result<(), AllocError>
     ensures { Appends out.old.items out.new.items (pack_lines (state_of R.Representation.means plan.now) (in_counts sides.now)) result }
 {
-    let edge = Counted::ZERO;
-    let nowhere = Placed {
-        left: edge,
-        bottom: edge,
-        right: edge,
-        top: edge,
-    };
-    let mut results = [nowhere; 64];
-    match plan.pack(sides, &mut results) {
-        Ok(chip) => {
-            append_answer(out, b"PACK", 0)?;
-            append_packing(out, &results[..plan.modules()], chip)
-        }
-        Err(refusal) => append_answer(out, b"PACK", refusal.number()),
+    // As many places as a plan can have modules, whatever the heap has.
+    let mut results = [unplaced(); 64];
+    let packed = plan.pack(sides, &mut results);
+    append_answer(out, b"PACK", &packed)?;
+    match packed {
+        Ok(chip) => append_packing(out, &results[..plan.modules()], chip),
+        Err(_) => Ok(()),
     }
 }

@@ -20,8 +20,8 @@ fn append_records(out: &mut Vec<u8>, results: &[Placed<Counted>]) -> Result<(), 
             b"",
             &[
                 Column(4, i as u64),
-                Column(10, placed.left.length() as u64),
-                Column(10, placed.bottom.length() as u64),
+                Column(10, u64::from(placed.left.length())),
+                Column(10, u64::from(placed.bottom.length())),
             ],
         )?;
     }
@@ -40,8 +40,8 @@ pub(crate) fn append_packing(
         out,
         b"CHIP",
         &[
-            Column(10, chip.width.length() as u64),
-            Column(10, chip.height.length() as u64),
+            Column(10, u64::from(chip.width.length())),
+            Column(10, u64::from(chip.height.length())),
             Column(16, chip.area),
         ],
     )?;
@@ -50,8 +50,8 @@ pub(crate) fn append_packing(
         out,
         b"EDGE",
         &[
-            Column(4, chip.width.borders() as u64),
-            Column(4, chip.height.borders() as u64),
+            Column(4, u64::from(chip.width.borders())),
+            Column(4, u64::from(chip.height.borders())),
         ],
     )
 }

@@ -1,6 +1,6 @@
 // The script at a plan, line by line.
 ghost use Rattle.listing.specs.Bordered.{in_counts};
-ghost use Rattle.listing.specs.CommandLines.{answer_number, change_word, command_lines, state_after};
+ghost use Rattle.listing.specs.CommandLines.{change_word, command_lines, state_after};
 ghost use Rattle.listing.specs.Line.{Appends};
 ghost use Rattle.listing.specs.ScriptLines.{lines_from};
 ghost use Rattle.planner.specs.States.{state_of};
@@ -12,7 +12,7 @@ use crate::lines::append_answer;
 use crate::pack::append_pack;
 use crate::scripted::Scripted;
 use lengths::Counted;
-use plans::{Change, Refusal, Sides};
+use plans::{Change, Sides};
 use representations::Representation;
 use sheets::{Command, Place, read_command};
 use std::alloc::AllocError;
@@ -29,16 +29,6 @@ fn change_word(wanted: Change) -> &'static [u8]
     }
 }
 
-// What an answer is printed as: 0, or the number of its refusal.
-fn printed<E: Refusal + Copy>(answer: Result<(), E>) -> u16
-    ensures { result ≡ answer_number E.Refusal.number_of answer }
-{
-    match answer {
-        Ok(()) => 0,
-        Err(refusal) => refusal.number(),
-    }
-}
-
 // Makes the call of one command, and appends its lines.
 fn run_command<R: Representation>(
     out: &mut Vec<u8>,
@@ -52,10 +42,10 @@ fn run_command<R: Representation>(
     match command {
         Command::Change(wanted) => {
             let answer = scripted.change(wanted);
-            append_answer(out, change_word(wanted), printed(answer))
+            append_answer(out, change_word(wanted), &answer)
         }
-        Command::Keep => append_answer(out, b"KEEP", printed(scripted.keep())),
-        Command::Undo => append_answer(out, b"UNDO", printed(scripted.undo())),
+        Command::Keep => append_answer(out, b"KEEP", &scripted.keep()),
+        Command::Undo => append_answer(out, b"UNDO", &scripted.undo()),
         Command::Pack => append_pack(out, &scripted.plan, sides),
     }
 }
@@ -71,6 +61,7 @@ fn run_script<R: Representation>(
     ensures { Appends out.old.items out.new.items (lines_from sheet.now (in_counts sides.now) (length sheet.now) start (state_of R.Representation.means scripted.old.plan)) result }
 {
     let mut at = start;
+    // Reading tells where the next line is, so there is nothing to count.
     loop {
         match read_command(sheet, at) {
             Ok(Some(line)) => {

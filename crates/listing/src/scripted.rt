@@ -43,6 +43,7 @@ impl<R: Representation> Scripted<R> {
         ensures { Does (model_change (state_of R.Representation.means self.old.plan) wanted) result (state_of R.Representation.means self.new.plan) }
     {
         let decision = self.plan.change(wanted)?;
+        // No `unwrap` here either: what stood at hand would be a decision.
         match self.hand.replace(decision) {
             None => Ok(()),
             Some(_) => unreachable!(),

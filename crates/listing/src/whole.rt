@@ -43,6 +43,7 @@ pub fn listing<'a>(heap: Global, sizes: &'a [u8], plan: &'a [u8]) -> Result<Vec<
         width: Plain(0),
         height: Plain(0),
     };
+    // the room that reading asks for, however few the modules are
     let mut sides = [nothing; 64];
     let mut codes = [0; 4096];
     let mut places = [0; 64];

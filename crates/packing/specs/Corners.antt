@@ -34,3 +34,7 @@ module _ {L : Type 0} (K : Kind L) where
   -- the chip around all records of a list
   abbrev pub chip_around : List (Placed L) → Chip L
   chip_around records = chip_to (far_corner records)
+
+  -- a record with all its edges where both axes begin
+  abbrev pub unplaced : Placed L
+  unplaced = record { left = K.origin; bottom = K.origin; right = K.origin; top = K.origin }

@@ -24,8 +24,3 @@ pins_of (Some p) = pin_of p
 abbrev pub Refuses : {E : Type 0} → Option E → Result (Unit {0}) E → Type 0
 Refuses refusal (Ok _) = refusal ≡ None
 Refuses refusal (Err e) = refusal ≡ Some e
-
--- a refusal as an error
-abbrev pub or_refusal : {E : Type 0} → Option E → Result (Unit {0}) E
-or_refusal None = Ok tt
-or_refusal (Some e) = Err e

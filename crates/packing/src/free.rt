@@ -37,7 +37,8 @@ impl<'a, R: Representation, L: Length> Job<'a, R, L> {
         ensures { result ≡ free_corner L.Length.kind (task_of R.Representation.means self.now).plan results.now place i }
     {
         let mut free = Corner::origin();
-        // A representation tells its sequence place by place, so there is no slice to go over.
+        // A representation tells its sequence place by place, so there is no slice to go over; the closure of a fold
+        // would have to ask of each place that it is one of the plan.
         for earlier in 0..place {
             let j = self.representation.module_at(earlier).unwrap();
             free = free.moved_past(self.representation.direction(j, i), results[j]);

@@ -46,7 +46,7 @@ impl<L: Length> Corner<L> {
         }
     }
 
-    // Whether this is at most the other, along both axes.
+    // Whether this is at most the other, along both axes; two corners need not compare, so it is no order to derive.
     pub(crate) fn at_most(self, other: Corner<L>) -> bool
         ensures { result ≡ corner_at_most L.Length.kind self other }
     {

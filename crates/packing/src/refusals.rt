@@ -3,7 +3,7 @@ ghost use Rattle.std.specs.Prelude.{◌≡◌, ◌&&◌, length};
 ghost use Rattle.plans.specs.Kinds.{possible_side};
 ghost use Rattle.plans.specs.PackingCalls.{wrong_side, pack_refusal, pin_refusal, rotation_refusal};
 ghost use Rattle.plans.specs.Search.{first_below};
-ghost use Rattle.packing.specs.Tasks.{task_of, or_refusal, Refuses};
+ghost use Rattle.packing.specs.Tasks.{task_of, Refuses};
 
 use crate::job::Job;
 use crate::pin::Pin;

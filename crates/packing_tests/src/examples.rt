@@ -6,23 +6,20 @@ use module_set::ModuleSet;
 use packing::{Chip, Job, Pin, PinnedRefusal, Placed, Sides};
 use plans::{Direction, Refusal};
 use representations::Representation;
+use std::array;
 
 // A chip of this width, height and area.
 fn is_chip<L: Length, E>(answer: &Result<Chip<L>, E>, width: u32, height: u32, area: u64) -> bool {
-    match answer {
-        Ok(chip) => chip.width.extent() == width
-            && chip.height.extent() == height
-            && chip.area == area,
-        Err(_) => false,
-    }
+    answer.as_ref().is_ok_and(|chip| {
+        chip.width.extent() == width && chip.height.extent() == height && chip.area == area
+    })
 }
 
 // A packing with a pin that is refused by this number.
 fn is_refused<L: Length>(answer: &Result<Chip<L>, PinnedRefusal>, number: u16) -> bool {
-    match answer {
-        Ok(_) => false,
-        Err(refusal) => refusal.number() == number,
-    }
+    answer
+        .as_ref()
+        .is_err_and(|refusal| refusal.number() == number)
 }
 
 // 0 left of 1, both below 2.
@@ -35,16 +32,9 @@ fn two_under_one() -> ClosureGraphs {
 // 64 modules, each with an edge in this direction to every later one.
 fn line_of(direction: Direction) -> ClosureGraphs {
     let mut graphs = ClosureGraphs::new();
-    let mut codes = [0; 4096];
-    for (k, code) in codes.iter_mut().enumerate() {
-        if k / 64 < k % 64 {
-            *code = u8::from(direction);
-        }
-    }
-    let mut sequence = [0; 64];
-    for (k, module) in sequence.iter_mut().enumerate() {
-        *module = k;
-    }
+    let code = u8::from(direction);
+    let codes: [u8; 4096] = array::from_fn(|k| if k / 64 < k % 64 { code } else { 0 });
+    let sequence: [usize; 64] = array::from_fn(|k| k);
     let _ = graphs.load(&codes, &sequence);
     graphs
 }

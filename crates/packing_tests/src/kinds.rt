@@ -1,6 +1,6 @@
 // Lengths of whole numbers in each kind, and lists of them.
 use lengths::{Counted, Length, Plain};
-use packing::{Placed, Sides};
+use packing::Sides;
 
 // A kind that has a length for each whole number.
 pub trait Whole: Length {
@@ -25,15 +25,5 @@ pub fn sides_of<L: Whole>(width: u32, height: u32) -> Sides<L> {
     Sides {
         width: L::whole(width),
         height: L::whole(height),
-    }
-}
-
-// A record of zeros, for the places of a list of results.
-pub fn blank<L: Length>() -> Placed<L> {
-    Placed {
-        left: L::ZERO,
-        bottom: L::ZERO,
-        right: L::ZERO,
-        top: L::ZERO,
     }
 }

@@ -1,7 +1,7 @@
 // Rounds on a plan of 64 modules, eight columns of eight.
-use lengths::{Length, Plain};
+use lengths::Plain;
 use module_set::ModuleSet;
-use packing::{Job, Placed, Sides};
+use packing::{Job, Placed, Sides, unplaced};
 use planner::Plan;
 use plans::Change;
 use representations::Representation;
@@ -62,20 +62,10 @@ fn some_sides() -> [Sides<Plain>; 64] {
     })
 }
 
-fn no_records() -> [Placed<Plain>; 64] {
-    let zero = Plain::ZERO;
-    [Placed {
-        left: zero,
-        bottom: zero,
-        right: zero,
-        top: zero,
-    }; 64]
-}
-
 // Packs what is loaded; how often a chip was answered.
 pub fn pack_rounds<R: Representation>(r: &R, rounds: usize) -> usize {
     let sides = some_sides();
-    let mut results = no_records();
+    let mut results = [unplaced(); 64];
     let job = Job {
         representation: r,
         rotated: ModuleSet::empty(),
@@ -91,7 +81,7 @@ pub fn trial_rounds<R: Representation + Drop>(r: R, rounds: usize) -> usize {
     let mut plan = Plan::new(r);
     let _ = plan.load(&grid_codes(), &grid_sequence());
     let sides = some_sides();
-    let mut results = no_records();
+    let mut results = [unplaced(); 64];
     (0..rounds)
         .filter(|&round| is_tried(&mut plan, round, &sides, &mut results))
         .count()

@@ -15,7 +15,7 @@ use Rattle.plans.specs.declared.measures.Placed.{Placed}
 use Rattle.plans.specs.declared.measures.Sides.{Sides}
 use Rattle.plans.specs.declared.pack_refusals.PackRefusal.{PackRefusal}
 use Rattle.std.proofs.lemmas.List.{append_assoc}
-use Rattle.std.proofs.Common.{◌≡◌, ◌≤◌, List, length, replicate, Ok, Err, Result, refl, ap, ◌∙◌, rules}
+use Rattle.std.proofs.Common.{◌≡◌, ◌≤◌, List, length, replicate, Ok, Err, Result, ap, subst, ◌∙◌, rules}
 
 -- what a packing lists, into 64 results that are at the origin
 listed : (s : State) (sides : List (Sides Counted)) (nowhere : Placed Counted) (after : List (Placed Counted)) (answer : Result (Chip Counted) PackRefusal)
@@ -26,14 +26,24 @@ listed s sides nowhere after answer is packs =
     pack_listed s sides (replicate 64 nowhere) after answer
     (map_replicate (carry_placed count_of) nowhere 64 ∙ ap (λ p. replicate 64 p) is) packs
 
-pub returns-in_ok-append_answer-in-Ok : goal.returns-in_ok-append_answer-in-Ok
-returns-in_ok-append_answer-in-Ok g c =
-    let lines = listed (state_of g.R.Representation.means c.args.plan.now) c.args.sides.now _ c.pack.new.results (Ok c.in-Ok.chip) refl c.in-Ok.ensures.outcome in
-    let few : c.modules.result ≤ length c.pack.new.results = search rules in
-    let front = front_packed c.pack.new.results c.modules.result (carry_chip count_of c.in-Ok.chip) few in
+pub returns-in-Ok : goal.returns-in-Ok
+returns-in-Ok g c =
+    let state = state_of g.R.Representation.means c.args.plan.now in
+    let after = c.pack-packed.new.results in
+    let at_zero = ap (carry_placed count_of) c.unplaced-results.ensures in
+    let before = replicate 64 c.unplaced-results.result in
+    let packs = subst (λ r. Packs counted_lengths (task_at state c.args.sides.now) before r after) c.in-Ok.is c.pack-packed.ensures.outcome in
+    let lines = listed state c.args.sides.now c.unplaced-results.result after (Ok c.in-Ok.chip) at_zero packs in
+    let few : c.modules.result ≤ length after = search rules in
+    let front = front_packed after c.modules.result (carry_chip count_of c.in-Ok.chip) few in
     search (rules, append_assoc, lines, front)
 
 pub returns-in-Err : goal.returns-in-Err
 returns-in-Err g c =
-    let lines = listed (state_of g.R.Representation.means c.args.plan.now) c.args.sides.now _ c.pack.new.results (Err c.in-Err.refusal) refl c.in-Err.ensures.outcome in
+    let state = state_of g.R.Representation.means c.args.plan.now in
+    let after = c.pack-packed.new.results in
+    let at_zero = ap (carry_placed count_of) c.unplaced-results.ensures in
+    let before = replicate 64 c.unplaced-results.result in
+    let packs = subst (λ r. Packs counted_lengths (task_at state c.args.sides.now) before r after) c.in-Err.is c.pack-packed.ensures.outcome in
+    let lines = listed state c.args.sides.now c.unplaced-results.result after (Err c.in-Err.field-0) at_zero packs in
     search (rules, append_assoc, lines)
