@@ -1,5 +1,5 @@
 // A representation over another, with the two axes exchanged.
-ghost use Rattle.std.specs.Prelude.{◌≡◌, ◌≤◌, map, length, take};
+ghost use Rattle.std.specs.Prelude.{◌≡◌, map};
 ghost use Rattle.plans.specs.Transposed.{other_code, transpose};
 ghost use Rattle.plans.proofs.TransposeLaw.{transpose_law};
 
