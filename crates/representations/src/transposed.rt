@@ -48,6 +48,7 @@ impl<R: Representation> Representation for Transposed<R> {
     }
 
     fn load(&mut self, codes: &[u8], sequence: &[usize]) -> Result<(), LoadRefusal> {
+        // Fixed room, since a load may not use the heap.
         let mut room = [0; 4096];
         if codes.len() > room.len() {
             return Err(LoadRefusal::WrongShape);

@@ -77,6 +77,7 @@ impl<'a> Sequenced<'a> {
         requires once { (k : ℕ) → k < length self.sequence.now → place_wrong self.sequence.now k ≡ false }
         ensures { (i : ℕ) → i < length self.entry.sequence.now → slice_index result i ≡ place_of self.entry.sequence.now i }
     {
+        // Fixed room, since a load may not use the heap.
         let mut places = [0; 64];
         for (place, &module) in self.sequence.iter().enumerate() {
             places[module] = place;
