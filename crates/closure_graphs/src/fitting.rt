@@ -14,6 +14,7 @@ pub(crate) fn fitting_sequence(m: usize, graphs: &TwoGraphs) -> [usize; 64]
     requires feasible { FeasibleTable m (table_drawn graphs.now) }
     ensures { take m result ≡ fitting m (table_drawn graphs.now) }
 {
+    // Fixed room, since a change may not use the heap.
     let mut sequence = [0; 64];
     // Each module is written at a place of its own, so to iterate over the places is no plainer.
     for i in 0..m {

@@ -66,13 +66,7 @@ pub fn changes<R: Representation>(r: &mut R) -> bool {
 
 // The codes of 64 modules in one row.
 fn row_codes() -> [u8; 4096] {
-    let mut codes = [0u8; 4096];
-    for (k, code) in codes.iter_mut().enumerate() {
-        if k / 64 < k % 64 {
-            *code = 1;
-        }
-    }
-    codes
+    array::from_fn(|k| u8::from(k / 64 < k % 64))
 }
 
 // 64 modules in one row, and 65.

@@ -1,5 +1,5 @@
 // A representation over another, with the two axes exchanged.
-ghost use Rattle.std.specs.Prelude.{◌≡◌, ◌≤◌, map, length, take};
+ghost use Rattle.std.specs.Prelude.{◌≡◌, map};
 ghost use Rattle.plans.specs.Transposed.{other_code, transpose};
 ghost use Rattle.plans.proofs.TransposeLaw.{transpose_law};
 
@@ -48,6 +48,7 @@ impl<R: Representation> Representation for Transposed<R> {
     }
 
     fn load(&mut self, codes: &[u8], sequence: &[usize]) -> Result<(), LoadRefusal> {
+        // Fixed room, since a load may not use the heap.
         let mut room = [0; 4096];
         if codes.len() > room.len() {
             return Err(LoadRefusal::WrongShape);

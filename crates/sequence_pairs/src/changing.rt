@@ -14,7 +14,7 @@ use representations::{Representation, two_modules};
 use table_tests::Table;
 
 impl SequencePair {
-    // The first refusal of a change.
+    // The first refusal of a change. `Change` has `Rotate` too, for which no representation is asked.
     fn check(&self, change: Change) -> Result<(), ChangeRefusal>
         ensures { result ≡ unless (change_refusal (meant self.now) change) tt }
     {
@@ -26,7 +26,7 @@ impl SequencePair {
         }
     }
 
-    // The direction at (i, j) after a change that is not refused.
+    // The direction at (i, j) after a change that is not refused; `Rotate` as above.
     fn changed_direction(&self, change: Change, i: usize, j: usize) -> Option<Direction>
         requires { change_refusal (meant self.now) change ≡ None }
         ensures { code_told result ≡ changed_table (table_in (meant self.now)) change i j }
@@ -39,7 +39,8 @@ impl SequencePair {
         }
     }
 
-    // Writes the table after a change that is not refused, row after row.
+    // Writes the table after a change that is not refused, row after row. Not shared with the planner, which writes that
+    // of a representation: one function for both would be public, and would ask of its caller that the bytes have room.
     fn write_changed(&self, change: Change, codes: &mut [u8])
         requires accepted { change_refusal (meant self.now) change ≡ None }
         requires room { length codes.old ≡ (meant self.now).size * (meant self.now).size }
@@ -59,6 +60,7 @@ impl SequencePair {
     {
         self.check(change)?;
         let modules = self.modules();
+        // Fixed room, since a change may not use the heap.
         let mut room = [0; 4096];
         let codes = &mut room[..modules * modules];
         self.write_changed(change, codes);

@@ -1,6 +1,6 @@
 // An edge of a sequence pair, and where two modules lie from each other after a change of it.
 ghost use Rattle.std.specs.Prelude.{◌≡◌, ◌<◌};
-ghost use Rattle.plans.specs.Changes.{bypassed, edge_refusal, move_table, other_graph, reverse_table, unless, without_edge};
+ghost use Rattle.plans.specs.Changes.{bypassed, edge_refusal, move_table, reverse_table, unless, without_edge};
 ghost use Rattle.plans.specs.Directions.{code_told};
 ghost use Rattle.plans.specs.Tables.{table_in};
 ghost use Rattle.sequence_pairs.specs.Changing.{gained_by, lies_between, taken_by};

@@ -1,10 +1,12 @@
 // The two sequences of a table: each module stands at the place that counts those before it.
-ghost use Rattle.std.specs.Prelude.{◌≡◌, ◌≤◌, take};
+ghost use Rattle.std.specs.Prelude.{◌≡◌, ◌==◌, ◌≤◌, take};
+ghost use Rattle.plans.specs.Directions.{code_along};
 ghost use Rattle.plans.specs.Sequences.{count_before, ordered_by};
 ghost use Rattle.plans.specs.Tables.{FeasibleTable, table_of};
 ghost use Rattle.sequence_pairs.specs.Counting.{stands_before};
 
 use crate::order::Order;
+use plans::Direction;
 use table_tests::Table;
 
 // Which of the two sequences.
@@ -28,8 +30,16 @@ impl SmallTable<'_> {
     {
         match which {
             Which::Packing => self.table.code(i, j) > 0,
-            Which::Other => self.table.code(i, j) == 1 || self.table.code(j, i) == 2,
+            Which::Other => self.leads(Direction::Right, i, j)
+                || self.leads(Direction::Above, j, i),
         }
+    }
+
+    // Whether there is an edge in this direction from i to j.
+    fn leads(&self, direction: Direction, i: usize, j: usize) -> bool
+        ensures { result ≡ (table_of self.now.table.modules self.now.table.codes.now i j == code_along direction) }
+    {
+        self.table.code(i, j) == u8::from(direction)
     }
 
     // How many modules do.
@@ -48,6 +58,7 @@ impl SmallTable<'_> {
         ensures count { result.count ≡ self.now.table.modules }
         ensures ordered { take self.now.table.modules result.modules ≡ ordered_by self.now.table.modules (stands_before which (table_of self.now.table.modules self.now.table.codes.now)) }
     {
+        // Fixed room, since a change may not use the heap.
         let mut places = [0; 64];
         for (j, place) in places.iter_mut().enumerate() {
             *place = self.count_before(which, j);

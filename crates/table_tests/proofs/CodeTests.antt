@@ -3,6 +3,7 @@ use Rattle.std.proofs.Common.{◌≡◌, ℕ, ◌*◌, ◌/◌, ◌%◌, ◌<◌
 use mathlib.Core.Bool.{beq}
 use Rattle.std.specs.Option.{option_map}
 use Rattle.std.specs.Prelude.{MatchOption}
+use Rattle.std.specs.List.{AllWithin, HoldsAt}
 use Rattle.std.proofs.lemmas.Bool.{cases_eq, cases_lt, eq-eqb, ne_eqb, lt-ltb, le-ltb}
 use Rattle.plans.proofs.Searches.{first_is}
 use Rattle.plans.proofs.TableLists.{code_at}
@@ -20,23 +21,26 @@ module _ (g m : ℕ) (codes : List ℕ) (full : length codes ≡ m * m) where
   great_at : (k : ℕ) → k < m * m → great k ≡ ltb g (get_or codes k 0)
   great_at k h = ap (ltb g) (sym (code_at m codes k h))
 
-  pub great_found :
-      (k : ℕ) → k < length codes → g < get_or codes k 0 → ((n : ℕ) → n < k → get_or codes n 0 ≤ g)
-      → Some (k / m, k % m) ≡ first_pair m (code_wrong g (table_of m codes))
-  great_found k h more below =
-      let in_table : k < m * m = omega arith in
-      sym (ap (option_map (λ k. (k / m, k % m))) (first_is great (m * m) (Some k) (
-        in_table,
-        great_at k in_table ∙ lt-ltb g (get_or codes k 0) more,
-        λ l i. great_at l (omega arith) ∙ le-ltb g (get_or codes l 0) (below l i),
-      )))
-
-  pub great_none :
-      (k : ℕ) → length codes ≤ k → ((n : ℕ) → n < k → get_or codes n 0 ≤ g)
-      → None ≡ first_pair m (code_wrong g (table_of m codes))
-  great_none k h below =
-      sym (ap (option_map (λ k. (k / m, k % m))) (first_is great (m * m) None
-      (λ l i. great_at l i ∙ le-ltb g (get_or codes l 0) (below l (omega arith)))))
+  -- the first code that is too great is told by its row and column
+  pub great_first :
+      (r : Option ℕ)
+      → MatchOption r (AllWithin (λ x. ltb g x ≡ false) codes 0 (length codes))
+      (λ k. (k < length codes) × HoldsAt (λ x. ltb g x ≡ true) codes k × AllWithin (λ x. ltb g x ≡ false) codes 0 k)
+      → option_map (λ k. (k / m, k % m)) r ≡ first_pair m (code_wrong g (table_of m codes))
+  great_first r f = sym (ap (option_map (λ k. (k / m, k % m))) (first_is great (m * m) r (settle r f)))
+    where
+      settle :
+          (r : Option ℕ)
+          → MatchOption r (AllWithin (λ x. ltb g x ≡ false) codes 0 (length codes))
+          (λ k. (k < length codes) × HoldsAt (λ x. ltb g x ≡ true) codes k × AllWithin (λ x. ltb g x ≡ false) codes 0 k)
+          → IsFirst great (m * m) r
+      settle (Some k) f =
+          let inside : k < m * m = omega (arith, f.0) in (
+            inside,
+            great_at k inside ∙ f.1 0,
+            λ l h. great_at l (omega arith) ∙ f.2 l 0 (omega arith) h,
+          )
+      settle None f = λ l h. great_at l h ∙ f l 0 (omega arith) (omega arith)
 
 -- off the diagonal no pair is related to itself, and on it where its module is
 off : (c : Table) (k l : ℕ) → (k ≡ l → ltb 0 (c k k) ≡ false) → self_related c k l ≡ false

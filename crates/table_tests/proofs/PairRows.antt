@@ -1,5 +1,7 @@
 -- The first pair in row order, found by looking for the first of each row.
-use Rattle.std.proofs.Common.{◌≡◌, ℕ, ◌<◌, Bool, false, Some, None, Option, sym, refl, ap, ◌∙◌, subst, inl, inr}
+use Rattle.std.proofs.Common.{◌≡◌, ℕ, ◌<◌, Bool, false, Some, None, Option, Ok, Err, Result, sym, refl, ap, ◌∙◌, subst, inl, inr}
+use Rattle.std.specs.Option.{option_map}
+use Rattle.std.specs.Prelude.{MatchOption}
 use Rattle.std.proofs.lemmas.Bool.{cases_order, true≢false}
 use Rattle.plans.proofs.Searches.{first_tells, first_pair_tells}
 use Rattle.plans.specs.First.{IsFirst, IsFirstPair}
@@ -63,8 +65,19 @@ first_rows p m gives (Some q) found rows =
 first_rows p m gives None found rows =
     first_pair_is p m None (λ k l g i. row_is (p k) m None (rows k None g (found.first k g)) l i)
 
--- a refusal that tells the first pair
+-- a refusal that tells what is found, as a pair
+pub told_as :
+    {X : Type 0} (refusal : ℕ → ℕ → LoadRefusal) (pair : X → ℕ × ℕ) (r : Option X) (s : Option (ℕ × ℕ))
+    (z : Result (Unit {0}) LoadRefusal) (gives : X → Type 0) → MatchOption r (z ≡ Ok (tt {0})) gives
+    → ((x : X) → gives x → z ≡ Err (refusal (pair x).0 (pair x).1)) → option_map pair r ≡ s
+    → z ≡ unless (telling_pair refusal s) (tt {0})
+told_as refusal pair (Some x) s z gives d f e = f x d ∙ ap (λ o. unless (telling_pair refusal o) (tt {0})) e
+told_as refusal pair None s z gives d f e = d ∙ ap (λ o. unless (telling_pair refusal o) (tt {0})) e
+
+-- and one that tells the pair that is found
 pub told :
-    (refusal : ℕ → ℕ → LoadRefusal) (r s : Option (ℕ × ℕ)) → r ≡ s
-    → unless (telling_pair refusal r) (tt {0}) ≡ unless (telling_pair refusal s) (tt {0})
-told refusal r s e = ap (λ o. unless (telling_pair refusal o) (tt {0})) e
+    (refusal : ℕ → ℕ → LoadRefusal) (r s : Option (ℕ × ℕ)) (z : Result (Unit {0}) LoadRefusal) (gives : ℕ × ℕ → Type 0)
+    → MatchOption r (z ≡ Ok (tt {0})) gives → ((q : ℕ × ℕ) → gives q → z ≡ Err (refusal q.0 q.1)) → r ≡ s
+    → z ≡ unless (telling_pair refusal s) (tt {0})
+told refusal (Some q) s = told_as refusal (λ (q : ℕ × ℕ). q) (Some q) s
+told refusal None s = told_as refusal (λ (q : ℕ × ℕ). q) None s

@@ -35,6 +35,7 @@ impl TwoGraphs {
         }
     }
 }
+
 // The edges of a table in this direction.
 fn graph_of(table: Table<'_>, direction: Direction) -> Graph
     requires few { table.modules ≤ 64 }

@@ -19,10 +19,10 @@ impl TwoGraphs {
         requires { JoinsModules modules self.now.right self.now.above }
         ensures { result ≡ unless (telling_pair NotClosed (first_pair modules (missing self.now.right self.now.above))) tt }
     {
-        match first_in_rows(modules, |i| self.missing_from(i).first()) {
-            Some((i, k)) => Err(LoadRefusal::NotClosed(i, k)),
-            None => Ok(()),
-        }
+        first_in_rows(modules, |i| self.missing_from(i).first()).map_or(
+            Ok(()),
+            |(i, k)| Err(LoadRefusal::NotClosed(i, k)),
+        )
     }
 
     // The modules to which i lacks an edge that two others of one graph close.

@@ -43,32 +43,29 @@ impl<'a> Table<'a> {
     fn check_greatest(self, greatest: u8) -> Result<(), LoadRefusal>
         ensures { result ≡ unless (telling_pair WrongCode (first_pair self.entry.modules (code_wrong greatest (table_in self.entry)))) tt }
     {
-        for (k, &code) in self.codes.iter().enumerate() {
-            if code > greatest {
-                return Err(LoadRefusal::WrongCode(k / self.modules, k % self.modules));
-            }
-        }
-        Ok(())
+        let wrong = self.codes.iter().position(|&code| code > greatest);
+        wrong.map_or(Ok(()), |k| {
+            Err(LoadRefusal::WrongCode(k / self.modules, k % self.modules))
+        })
     }
 
     // No module is related to itself.
     fn check_diagonal(self) -> Result<(), LoadRefusal>
         ensures { result ≡ unless (telling_pair SelfRelated (first_pair self.entry.modules (self_related (table_in self.entry)))) tt }
     {
-        match (0..self.modules).find(|&i| self.code(i, i) > 0) {
-            Some(i) => Err(LoadRefusal::SelfRelated(i, i)),
-            None => Ok(()),
-        }
+        (0..self.modules)
+            .find(|&i| self.code(i, i) > 0)
+            .map_or(Ok(()), |i| Err(LoadRefusal::SelfRelated(i, i)))
     }
 
     // Each two modules have one edge.
     fn check_pairs(self) -> Result<(), LoadRefusal>
         ensures { result ≡ unless (telling_pair NotOneEdge (first_pair self.entry.modules (not_one_edge (table_in self.entry)))) tt }
     {
-        match first_in_rows(self.modules, |i| self.not_one_edge_with(i)) {
-            Some((i, j)) => Err(LoadRefusal::NotOneEdge(i, j)),
-            None => Ok(()),
-        }
+        first_in_rows(self.modules, |i| self.not_one_edge_with(i)).map_or(
+            Ok(()),
+            |(i, j)| Err(LoadRefusal::NotOneEdge(i, j)),
+        )
     }
 
     // The first module above i that has no edge with i, or two.

@@ -53,10 +53,10 @@ impl<'a> Sequenced<'a> {
         ensures { result ≡ unless (telling_pair Backwards (first_pair (length self.entry.sequence.now) (backwards (table_in self.entry.table) self.entry.sequence.now))) tt }
     {
         let places = self.places();
-        match first_in_rows(self.table.modules, |i| self.backward_from(&places, i)) {
-            Some((i, j)) => Err(LoadRefusal::Backwards(i, j)),
-            None => Ok(()),
-        }
+        first_in_rows(self.table.modules, |i| self.backward_from(&places, i)).map_or(
+            Ok(()),
+            |(i, j)| Err(LoadRefusal::Backwards(i, j)),
+        )
     }
 
     // The first module that stands before i and to which i has an edge.
@@ -77,6 +77,7 @@ impl<'a> Sequenced<'a> {
         requires once { (k : ℕ) → k < length self.sequence.now → place_wrong self.sequence.now k ≡ false }
         ensures { (i : ℕ) → i < length self.entry.sequence.now → slice_index result i ≡ place_of self.entry.sequence.now i }
     {
+        // Fixed room, since a load may not use the heap.
         let mut places = [0; 64];
         for (place, &module) in self.sequence.iter().enumerate() {
             places[module] = place;

@@ -36,7 +36,7 @@ impl<'a> Table<'a> {
         }
     }
 
-    // The code at (i, j), 0 outside the table.
+    // The code at (i, j), 0 outside the table: the byte that a load is given, which need not be that of a direction.
     pub fn code(self, i: usize, j: usize) -> u8
         ensures { result ≡ table_in self.entry i j }
     {

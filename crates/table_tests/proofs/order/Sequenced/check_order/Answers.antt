@@ -1,5 +1,5 @@
 -- The first row with an edge backwards.
-use Rattle.std.proofs.Common.{rules, Some, None, sym, ap, ◌∙◌}
+use Rattle.std.proofs.Common.{rules, sym, ap, ◌∙◌}
 use Rattle.plans.specs.Search.{first_pair}
 use Rattle.plans.specs.Tests.{backwards}
 use Rattle.plans.specs.declared.refusals.LoadRefusal.TheVariants.{Backwards}
@@ -8,8 +8,8 @@ use Rattle.table_tests.proofs.PlaceMarks.{against_first}
 use Rattle.table_tests.specs.Codes.{table_in}
 use Rattle.table_tests.proofs.order.Sequenced.check_order.Goals as goal
 
-pub returns-in-Some : goal.returns-in-Some
-returns-in-Some c =
+pub returns : goal.returns
+returns c =
     let s = c.args.self.sequence.now in
     let t = table_in c.args.self.table in
     let m = c.args.self.table.modules in
@@ -17,16 +17,5 @@ returns-in-Some c =
     first_rows (backwards t s) m _ c.first_in_rows.result c.first_in_rows.ensures
     (λ i r l found. against_first t s c.places-places.result m i c.args.self.long l c.places-places.ensures r (search rules))
     in
-    told Backwards (Some (c.in-Some.i, c.in-Some.j)) _
-    (sym c.in-Some.is ∙ first ∙ ap (λ n. first_pair n (backwards t s)) (sym c.args.self.long))
-
-pub returns-in-None : goal.returns-in-None
-returns-in-None c =
-    let s = c.args.self.sequence.now in
-    let t = table_in c.args.self.table in
-    let m = c.args.self.table.modules in
-    let first =
-    first_rows (backwards t s) m _ c.first_in_rows.result c.first_in_rows.ensures
-    (λ i r l found. against_first t s c.places-places.result m i c.args.self.long l c.places-places.ensures r (search rules))
-    in
-    told Backwards None _ (sym c.in-None.is ∙ first ∙ ap (λ n. first_pair n (backwards t s)) (sym c.args.self.long))
+    told Backwards c.first_in_rows.result _ c.map_or.result _ c.map_or.ensures (λ q k. search rules)
+    (first ∙ ap (λ n. first_pair n (backwards t s)) (sym c.args.self.long))
