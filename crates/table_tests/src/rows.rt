@@ -2,7 +2,7 @@
 ghost use Rattle.std.specs.Prelude.{ℕ, ◌<◌};
 ghost use Rattle.table_tests.specs.Rows.{FirstRow};
 
-// The first row in which something is found, with what is found there first. The loop reads no place by i.
+// The first row in which something is found, with what is found there first.
 pub(crate) fn first_in_rows<F: Fn(usize) -> Option<usize>>(
     modules: usize,
     in_row: F,
@@ -10,10 +10,9 @@ pub(crate) fn first_in_rows<F: Fn(usize) -> Option<usize>>(
     requires { (i : ℕ) → i < modules → F.pre in_row i }
     ensures { FirstRow modules (F.post in_row) result }
 {
-    for i in 0..modules {
-        if let Some(j) = in_row(i) {
-            return Some((i, j));
-        }
-    }
-    None
+    (0..modules).find_map(
+        |i| -> Option<(usize, usize)>
+            requires { F.pre in_row i }
+        { Some((i, in_row(i)?)) },
+    )
 }
