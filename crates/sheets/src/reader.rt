@@ -61,6 +61,7 @@ fn read_all(
     check_lengths(sizes, plan)?;
     let (head, modules, second) = read_head(plan)?;
     let first = Line {
+        sheet: Sheet::Sizes,
         bytes: sizes,
         at: FIRST,
     };
