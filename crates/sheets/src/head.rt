@@ -24,9 +24,10 @@ pub(crate) fn read_head<'a>(plan: &'a [u8]) -> Result<(Head, usize, Line<'a>), F
     };
     line.check_width(8)?;
     let head = read_word(line)?;
-    let modules = line.number(4, 4)?;
+    let field = line.field(4, 4);
+    let modules = field.number()?;
     if modules > 64 {
-        return Err(line.fault(Wrong::OutOfRange, 4, 4));
+        return Err(field.fault(Wrong::OutOfRange));
     }
     Ok((head, modules as usize, line.next(8)))
 }

@@ -6,8 +6,8 @@ ghost use Rattle.sheets.specs.Promises.{Passed, Reads};
 ghost use Rattle.sheets.specs.Reading.{bad_at, number_at};
 ghost use Rattle.sheets.specs.declared.fault.Wrong.TheVariants as wrongs;
 
-use crate::fault::{Finding, Sheet, Wrong};
-use crate::field::number;
+use crate::fault::{Finding, Sheet};
+use crate::line_field::Field;
 use crate::place::Place;
 
 // Where the first byte 10 stands.
@@ -95,30 +95,18 @@ impl<'a> Line<'a> {
     }
 
     // The field that stands `offset` bytes into the line.
-    pub(crate) fn field(self, offset: usize, width: usize) -> &'a [u8]
-        requires { self.at.offset + offset + width ≤ length self.bytes.now }
-        ensures { result.now ≡ part self.entry.bytes.now (self.entry.at.offset + offset) width }
-    {
-        let from = self.at.offset + offset;
-        &self.bytes[from..from + width]
-    }
-
-    // A fault of that field.
-    pub(crate) fn fault(self, wrong: Wrong, offset: usize, width: usize) -> Finding
-        requires { self.at.offset + offset < length self.bytes.now }
-        ensures { result ≡ field_finding wrong self.entry.sheet self.entry.at.line self.entry.at.offset offset width }
-    {
-        Finding::field(wrong, self.sheet, self.at, offset, width)
-    }
-
-    // The number in that field.
-    pub(crate) fn number(self, offset: usize, width: usize) -> Result<u32, Finding>
+    pub(crate) fn field(self, offset: usize, width: usize) -> Field<'a>
         requires within { self.at.offset + offset + width ≤ length self.bytes.now }
         requires some { 0 < width }
         requires few { width < 10 }
-        ensures { Reads self.entry.sheet self.entry.bytes.now (tell_if (bad_at self.entry.bytes.now (self.entry.at.offset + offset) width) (field_finding wrongs.BadField self.entry.sheet self.entry.at.line self.entry.at.offset offset width) ∷ []) (λ n. n ≡ number_at self.entry.bytes.now (self.entry.at.offset + offset) width) result }
+        ensures line { result.line ≡ self.entry }
+        ensures offset { result.offset ≡ offset }
+        ensures width { result.width ≡ width }
     {
-        let field = self.field(offset, width);
-        number(field).ok_or(self.fault(Wrong::BadField, offset, width))
+        Field {
+            line: self,
+            offset,
+            width,
+        }
     }
 }

@@ -16,7 +16,7 @@ fn read_code(line: Line<'_>, j: usize) -> Result<u8, Finding>
     requires within { line.at.offset + j < length line.bytes.now }
     ensures { Reads sheets.Plan line.entry.bytes.now (letter_checks line.entry.bytes.now line.entry.at.line line.entry.at.offset j) (λ code. code ≡ code_at line.entry.bytes.now (line.entry.at.offset + j)) result }
 {
-    code_of(line.byte(j)).ok_or(line.fault(Wrong::UnknownWord, j, 1))
+    code_of(line.byte(j)).ok_or(line.field(j, 1).fault(Wrong::UnknownWord))
 }
 
 // The codes of a row, as many as are written.

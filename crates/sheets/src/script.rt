@@ -18,7 +18,7 @@ fn operand(line: Line<'_>, j: usize) -> Result<usize, Finding>
     requires within { line.at.offset + (4 + 4 * j) + 4 < length line.bytes.now }
     ensures { Reads sheets.Plan line.entry.bytes.now (operand_checks line.entry.bytes.now line.entry.at.line line.entry.at.offset (j + 1) j) (λ n. n ≡ operand_at line.entry.bytes.now line.entry.at.offset (j + 1) j) result }
 {
-    let number = line.number(4 + 4 * j, 4)?;
+    let number = line.field(4 + 4 * j, 4).number()?;
     Ok(number as usize)
 }
 

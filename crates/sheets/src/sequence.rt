@@ -16,7 +16,7 @@ pub(crate) fn read_sequence(line: Line<'_>, places: &mut [usize]) -> Result<(), 
 {
     line.check_width(4 * places.len())?;
     for (j, place) in places.iter_mut().enumerate() {
-        *place = line.number(4 * j, 4)? as usize;
+        *place = line.field(4 * j, 4).number()? as usize;
     }
     Ok(())
 }

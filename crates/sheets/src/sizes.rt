@@ -23,9 +23,10 @@ fn read_side(line: Line<'_>, offset: usize) -> Result<u32, Finding>
     requires within { line.at.offset + offset + 8 ≤ length line.bytes.now }
     ensures { Reads sheets.Sizes line.entry.bytes.now (side_checks line.entry.bytes.now line.entry.at.line line.entry.at.offset offset) (λ n. n ≡ number_at line.entry.bytes.now (line.entry.at.offset + offset) 8) result }
 {
-    let side = line.number(offset, 8)?;
+    let field = line.field(offset, 8);
+    let side = field.number()?;
     if !is_side(side) {
-        return Err(line.fault(Wrong::OutOfRange, offset, 8));
+        return Err(field.fault(Wrong::OutOfRange));
     }
     Ok(side)
 }

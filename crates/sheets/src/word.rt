@@ -55,7 +55,8 @@ pub(crate) fn read_word<W: Spelled>(line: Line<'_>) -> Result<W, Finding>
     requires { line.at.offset + 4 ≤ length line.bytes.now }
     ensures { Reads line.entry.sheet line.entry.bytes.now (tell_if (not (is_some (W.spelled (part line.entry.bytes.now line.entry.at.offset 4)))) (field_finding wrongs.UnknownWord line.entry.sheet line.entry.at.line line.entry.at.offset 0 4) ∷ []) (λ w. W.spelled (part line.entry.bytes.now line.entry.at.offset 4) ≡ Some w) result }
 {
-    W::spelled_by(line.field(0, 4)).ok_or(line.fault(Wrong::UnknownWord, 0, 4))
+    let field = line.field(0, 4);
+    W::spelled_by(field.bytes()).ok_or(field.fault(Wrong::UnknownWord))
 }
 
 // The relation code that a letter stands for: the byte that a load takes.

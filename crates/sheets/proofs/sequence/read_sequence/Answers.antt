@@ -13,13 +13,13 @@ returns-in_err-place c =
     let line = c.args.line in
     let loop = c.loop-j.invariant in
     rw (p.1, p.2) (fails_behind (rw c.requires.plan at c.in_ok-check_width.ensures.0)
-    (each_fails (place_checks line.bytes.now line.at.line line.at.offset) _ c.loop-j.j c.loop-j-test.true loop.passed (rw c.requires.plan at c.in_err-place.ensures)))
+    (each_fails (place_checks line.bytes.now line.at.line line.at.offset) _ c.loop-j.j c.loop-j-test.true loop.passed (rw (c.field.ensures.line, c.field.ensures.offset, c.field.ensures.width, c.requires.plan) at c.in_err-place.ensures)))
 
 pub loop-j-preserved : goal.loop-j-preserved
 loop-j-preserved c =
     let line = c.args.line in
     let loop = c.loop-j.invariant in
-    let done = rw c.requires.plan at c.in_ok-place.ensures in
+    let done = rw (c.field.ensures.line, c.field.ensures.offset, c.field.ensures.width, c.requires.plan) at c.in_ok-place.ensures in
     record {
       passed = passed_more (place_checks line.bytes.now line.at.line line.at.offset) c.loop-j.j loop.passed done.0;
       read = front_more 0 (λ k. number_at line.bytes.now (line.at.offset + 4 * k) 4) c.loop-j.j c.loop-j.places _ (omega arith) done.1 loop.read;
