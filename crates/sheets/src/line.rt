@@ -18,6 +18,7 @@ fn line_end(bytes: &[u8]) -> Option<usize>
 }
 
 // A line: its sheet, the bytes of that, and where in them it starts.
+// Its width is no field of it: a stage knows it only once it is checked, and says so to the next by a `requires`.
 #[derive(Clone, Copy)]
 pub(crate) struct Line<'a> {
     pub sheet: Sheet,
