@@ -1,10 +1,8 @@
 // Lines of a sheet.
 ghost use Rattle.std.specs.Prelude.{◌≡◌, ◌+◌, ◌-◌, ◌^◌, ◌<◌, ◌≤◌, ◌==◌, T, [], ◌∷◌, length, min, not, position, slice_index};
-ghost use Rattle.sheets.specs.Checks.{tell_if, field_finding, line_finding};
-ghost use Rattle.sheets.specs.Lines.{goes_on, has_width, part, width_at};
+ghost use Rattle.sheets.specs.Checks.{tell_if, line_finding};
+ghost use Rattle.sheets.specs.Lines.{goes_on, has_width, width_at};
 ghost use Rattle.sheets.specs.Promises.{Passed, Reads};
-ghost use Rattle.sheets.specs.Reading.{bad_at, number_at};
-ghost use Rattle.sheets.specs.declared.fault.Wrong.TheVariants as wrongs;
 
 use crate::fault::{Finding, Sheet};
 use crate::line_field::Field;

@@ -34,7 +34,13 @@ impl<'a> Field<'a> {
     pub(crate) fn fault(self, wrong: Wrong) -> Finding
         ensures { result ≡ field_finding wrong self.entry.line.sheet self.entry.line.at.line self.entry.line.at.offset self.entry.offset self.entry.width }
     {
-        Finding::field(wrong, self.line.sheet, self.line.at, self.offset, self.width)
+        Finding::field(
+            wrong,
+            self.line.sheet,
+            self.line.at,
+            self.offset,
+            self.width,
+        )
     }
 
     // The number in it.

@@ -85,6 +85,11 @@ pub fn read_command<'a>(plan: &'a [u8], at: Place) -> Result<Option<ScriptLine>,
     if at.offset >= plan.len() {
         return Ok(None);
     }
-    let line = read_line(Line { sheet: Sheet::Plan, bytes: plan, at }).map_err(|finding| finding.lend(plan))?;
+    let line = read_line(Line {
+        sheet: Sheet::Plan,
+        bytes: plan,
+        at,
+    })
+    .map_err(|finding| finding.lend(plan))?;
     Ok(Some(line))
 }
