@@ -45,7 +45,10 @@ module _ {sizes plan : Bor (List ℕ)} {before after : Held} {p : Parsed} (d : D
   few : p.modules ≤ 64
   few = let h = few_modules sizes.now plan.now before passed in omega (arith, h, same)
 
-  -- the codes and the places lie in their lists
+  -- the codes are few, and lie in their list as the places do in theirs
+  pub square_small : p.modules * p.modules ≤ 4096
+  square_small = let h = mul-le p.modules p.modules 64 64 few few in omega (arith, h)
+
   pub codes_end : p.modules * p.modules ≤ length after.codes
   codes_end =
       let h = mul-le p.modules p.modules 64 64 few few in

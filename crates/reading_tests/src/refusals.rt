@@ -7,7 +7,7 @@ use std::process::Abort;
 use std::test::Fail;
 
 // Checks that reading a plan is refused: the number, the sheet, the line and the column that are
-// told, the field that is lent, and that the codes and the sequence stand in the lists as read.
+// told (numbers, as the listing prints them), the field that is lent, and that the codes and the sequence stand in the lists as read.
 fn check_refused(
     rt: &impl Abort,
     plan: &[u8],

@@ -42,8 +42,7 @@ pub enum Sheet {
     Plan,
 }
 
-// What is wrong and where: line and column count from 1, and 0 is printed where none is meant;
-// the field at fault is the part of the sheet at offset `from`, `width` bytes long.
+// What is wrong and where: line and column count from 1, and are 0 where none is meant; the field at fault is the part of the sheet at offset `from`, `width` bytes long.
 #[derive(Clone, Copy)]
 pub struct Finding {
     pub wrong: Wrong,
@@ -55,6 +54,7 @@ pub struct Finding {
 }
 
 // A fault of reading, with the field at fault as a part of its sheet.
+// It holds no `Finding`: that would hand out `from` and `width` beside the part that they name.
 #[derive(Clone, Copy)]
 pub struct Fault<'a> {
     pub wrong: Wrong,

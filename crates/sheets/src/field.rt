@@ -8,6 +8,7 @@ fn after_blanks<'a>(field: &'a [u8]) -> &'a [u8]
     ensures within { length result.now ≤ length field.now }
 {
     let mut rest = field;
+    // `trim_ascii_start` would drop more than blanks, and `position` tells no place where all are blank.
     while let [b' ', tail @ ..] = rest {
         rest = tail;
     }

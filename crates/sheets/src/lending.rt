@@ -10,6 +10,7 @@ impl Finding {
         ensures { self.from + self.width ≤ length sheet.entry.now → Tells sheet.entry self result }
     {
         let end = self.from.saturating_add(self.width);
+        // `get` with `unwrap_or` reads shorter, but its proof of where in the sheet the field lies did not close.
         let field = if end <= sheet.len() {
             &sheet[self.from..end]
         } else {

@@ -7,6 +7,7 @@ mod field;
 mod head;
 mod lending;
 mod line;
+mod line_field;
 mod parsed;
 mod place;
 mod reader;

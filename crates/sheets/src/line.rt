@@ -1,13 +1,11 @@
 // Lines of a sheet.
 ghost use Rattle.std.specs.Prelude.{◌≡◌, ◌+◌, ◌-◌, ◌^◌, ◌<◌, ◌≤◌, ◌==◌, T, [], ◌∷◌, length, min, not, position, slice_index};
-ghost use Rattle.sheets.specs.Checks.{tell_if, field_finding, line_finding};
-ghost use Rattle.sheets.specs.Lines.{goes_on, has_width, part, width_at};
+ghost use Rattle.sheets.specs.Checks.{tell_if, line_finding};
+ghost use Rattle.sheets.specs.Lines.{goes_on, has_width, width_at};
 ghost use Rattle.sheets.specs.Promises.{Passed, Reads};
-ghost use Rattle.sheets.specs.Reading.{bad_at, number_at};
-ghost use Rattle.sheets.specs.declared.fault.Wrong.TheVariants as wrongs;
 
-use crate::fault::{Finding, Sheet, Wrong};
-use crate::field::number;
+use crate::fault::{Finding, Sheet};
+use crate::line_field::Field;
 use crate::place::Place;
 
 // Where the first byte 10 stands.
@@ -17,9 +15,11 @@ fn line_end(bytes: &[u8]) -> Option<usize>
     bytes.iter().position(|b| *b == b'\n')
 }
 
-// A line: the bytes of its sheet, and where in them it starts.
+// A line: its sheet, the bytes of that, and where in them it starts.
+// Its width is no field of it: a stage knows it only once it is checked, and says so to the next by a `requires`.
 #[derive(Clone, Copy)]
 pub(crate) struct Line<'a> {
+    pub sheet: Sheet,
     pub bytes: &'a [u8],
     pub at: Place,
     ghost starts: { at.offset ≤ length bytes.now },
@@ -27,13 +27,15 @@ pub(crate) struct Line<'a> {
 
 impl<'a> Line<'a> {
     // The line behind this one, which has `width` bytes; its number stays at the largest that there is.
-    pub fn next(self, width: usize) -> Line<'a>
+    pub(crate) fn next(self, width: usize) -> Line<'a>
         requires { self.at.offset + width < length self.bytes.now }
+        ensures sheet { result.sheet ≡ self.entry.sheet }
         ensures bytes { result.bytes ≡ self.entry.bytes }
         ensures offset { result.at.offset ≡ self.entry.at.offset + width + 1 }
         ensures line { result.at.line ≡ min (self.entry.at.line + 1) (2 ^ 64 - 1) }
     {
         Line {
+            sheet: self.sheet,
             bytes: self.bytes,
             at: Place {
                 offset: self.at.offset + width + 1,
@@ -43,14 +45,14 @@ impl<'a> Line<'a> {
     }
 
     // Whether the sheet has a byte where the line starts.
-    pub fn goes_on(self) -> bool
+    pub(crate) fn goes_on(self) -> bool
         ensures { result ≡ goes_on self.entry.bytes.now self.entry.at.offset }
     {
         self.at.offset < self.bytes.len()
     }
 
     // How many bytes the line has before its byte 10.
-    pub fn width(self) -> usize
+    pub(crate) fn width(self) -> usize
         ensures exact { result ≡ width_at self.entry.bytes.now self.entry.at.offset }
         ensures within { self.entry.at.offset + result ≤ length self.entry.bytes.now }
     {
@@ -67,24 +69,24 @@ impl<'a> Line<'a> {
     }
 
     // The fault that the line is missing, surplus or of wrong length.
-    pub fn wrong_length(self, sheet: Sheet) -> Finding
-        ensures { result ≡ line_finding sheet self.entry.at.line }
+    pub(crate) fn wrong_length(self) -> Finding
+        ensures { result ≡ line_finding self.entry.sheet self.entry.at.line }
     {
-        Finding::line(sheet, self.at.line)
+        Finding::line(self.sheet, self.at.line)
     }
 
     // That fault, if the line has not `width` bytes.
-    pub fn check_width(self, sheet: Sheet, width: usize) -> Result<(), Finding>
-        ensures { Reads sheet self.entry.bytes.now (tell_if (not (has_width self.entry.bytes.now self.entry.at.offset width)) (line_finding sheet self.entry.at.line) ∷ []) (λ _. Passed self.entry.bytes.now self.entry.at.offset width) result }
+    pub(crate) fn check_width(self, width: usize) -> Result<(), Finding>
+        ensures { Reads self.entry.sheet self.entry.bytes.now (tell_if (not (has_width self.entry.bytes.now self.entry.at.offset width)) (line_finding self.entry.sheet self.entry.at.line) ∷ []) (λ _. Passed self.entry.bytes.now self.entry.at.offset width) result }
     {
         if !self.has_width(width) {
-            return Err(self.wrong_length(sheet));
+            return Err(self.wrong_length());
         }
         Ok(())
     }
 
     // The byte that stands `offset` bytes into the line.
-    pub fn byte(self, offset: usize) -> u8
+    pub(crate) fn byte(self, offset: usize) -> u8
         requires { self.at.offset + offset < length self.bytes.now }
         ensures { result ≡ slice_index self.entry.bytes.now (self.entry.at.offset + offset) }
     {
@@ -92,30 +94,18 @@ impl<'a> Line<'a> {
     }
 
     // The field that stands `offset` bytes into the line.
-    pub fn field(self, offset: usize, width: usize) -> &'a [u8]
-        requires { self.at.offset + offset + width ≤ length self.bytes.now }
-        ensures { result.now ≡ part self.entry.bytes.now (self.entry.at.offset + offset) width }
-    {
-        let from = self.at.offset + offset;
-        &self.bytes[from..from + width]
-    }
-
-    // A fault of that field.
-    pub fn fault(self, wrong: Wrong, sheet: Sheet, offset: usize, width: usize) -> Finding
-        requires { self.at.offset + offset < length self.bytes.now }
-        ensures { result ≡ field_finding wrong sheet self.entry.at.line self.entry.at.offset offset width }
-    {
-        Finding::field(wrong, sheet, self.at, offset, width)
-    }
-
-    // The number in that field.
-    pub fn number(self, sheet: Sheet, offset: usize, width: usize) -> Result<u32, Finding>
+    pub(crate) fn field(self, offset: usize, width: usize) -> Field<'a>
         requires within { self.at.offset + offset + width ≤ length self.bytes.now }
         requires some { 0 < width }
         requires few { width < 10 }
-        ensures { Reads sheet self.entry.bytes.now (tell_if (bad_at self.entry.bytes.now (self.entry.at.offset + offset) width) (field_finding wrongs.BadField sheet self.entry.at.line self.entry.at.offset offset width) ∷ []) (λ n. n ≡ number_at self.entry.bytes.now (self.entry.at.offset + offset) width) result }
+        ensures line { result.line ≡ self.entry }
+        ensures offset { result.offset ≡ offset }
+        ensures width { result.width ≡ width }
     {
-        let field = self.field(offset, width);
-        number(field).ok_or(self.fault(Wrong::BadField, sheet, offset, width))
+        Field {
+            line: self,
+            offset,
+            width,
+        }
     }
 }

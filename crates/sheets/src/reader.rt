@@ -61,6 +61,7 @@ fn read_all(
     check_lengths(sizes, plan)?;
     let (head, modules, second) = read_head(plan)?;
     let first = Line {
+        sheet: Sheet::Sizes,
         bytes: sizes,
         at: FIRST,
     };
@@ -97,6 +98,7 @@ fn read_lists(
 
 // Reads the sizes and the plan into the lists, and answers the head, the number of modules and
 // where the script starts; or the first fault of the lists' room and the two sheets.
+// The sheets are no struct: each contract speaks of one or the other, and a fault borrows only the one it names.
 pub fn parse<'a>(
     sizes: &'a [u8],
     plan: &'a [u8],

@@ -13,17 +13,19 @@ use plans::Change;
 
 // Field `j` behind the word of a line.
 fn operand(line: Line<'_>, j: usize) -> Result<usize, Finding>
+    requires plan { line.sheet ≡ sheets.Plan }
     requires few { j < 2 }
     requires within { line.at.offset + (4 + 4 * j) + 4 < length line.bytes.now }
     ensures { Reads sheets.Plan line.entry.bytes.now (operand_checks line.entry.bytes.now line.entry.at.line line.entry.at.offset (j + 1) j) (λ n. n ≡ operand_at line.entry.bytes.now line.entry.at.offset (j + 1) j) result }
 {
-    let number = line.number(Sheet::Plan, 4 + 4 * j, 4)?;
+    let number = line.field(4 + 4 * j, 4).number()?;
     Ok(number as usize)
 }
 
 // The two fields behind the word of a line.
 fn operands(line: Line<'_>) -> Result<(usize, usize), Finding>
-    requires { line.at.offset + 12 < length line.bytes.now }
+    requires plan { line.sheet ≡ sheets.Plan }
+    requires within { line.at.offset + 12 < length line.bytes.now }
     ensures { Reads sheets.Plan line.entry.bytes.now (operand_checks line.entry.bytes.now line.entry.at.line line.entry.at.offset 2 0 ++ operand_checks line.entry.bytes.now line.entry.at.line line.entry.at.offset 2 1) (λ p. (p.0 ≡ operand_at line.entry.bytes.now line.entry.at.offset 2 0) × (p.1 ≡ operand_at line.entry.bytes.now line.entry.at.offset 2 1)) result }
 {
     Ok((operand(line, 0)?, operand(line, 1)?))
@@ -31,7 +33,8 @@ fn operands(line: Line<'_>) -> Result<(usize, usize), Finding>
 
 // The command of a line with that word, and with as many fields behind it as it should have.
 fn command_of(line: Line<'_>, word: Word) -> Result<Command, Finding>
-    requires { line.at.offset + (4 + 4 * fields_behind word) < length line.bytes.now }
+    requires plan { line.sheet ≡ sheets.Plan }
+    requires within { line.at.offset + (4 + 4 * fields_behind word) < length line.bytes.now }
     ensures { Reads sheets.Plan line.entry.bytes.now (operand_checks line.entry.bytes.now line.entry.at.line line.entry.at.offset (fields_behind word) 0 ++ operand_checks line.entry.bytes.now line.entry.at.line line.entry.at.offset (fields_behind word) 1) (λ c. c ≡ command_with word (operand_at line.entry.bytes.now line.entry.at.offset (fields_behind word) 0) (operand_at line.entry.bytes.now line.entry.at.offset (fields_behind word) 1)) result }
 {
     Ok(match word {
@@ -56,15 +59,16 @@ fn command_of(line: Line<'_>, word: Word) -> Result<Command, Finding>
 
 // The command of a line that is there, and the place of the next.
 fn read_line(line: Line<'_>) -> Result<ScriptLine, Finding>
-    requires { line.at.offset < length line.bytes.now }
+    requires plan { line.sheet ≡ sheets.Plan }
+    requires within { line.at.offset < length line.bytes.now }
     ensures { Reads sheets.Plan line.entry.bytes.now (script_checks line.entry.bytes.now line.entry.at.line line.entry.at.offset) (λ l. l ≡ line_read line.entry.bytes.now line.entry.at) result }
 {
     if line.width() < 4 {
-        return Err(line.wrong_length(Sheet::Plan));
+        return Err(line.wrong_length());
     }
     let word: Word = read_word(line)?;
     let width = 4 + 4 * fields_behind(word);
-    line.check_width(Sheet::Plan, width)?;
+    line.check_width(width)?;
     let command = command_of(line, word)?;
     Ok(ScriptLine {
         command,
@@ -81,6 +85,11 @@ pub fn read_command<'a>(plan: &'a [u8], at: Place) -> Result<Option<ScriptLine>,
     if at.offset >= plan.len() {
         return Ok(None);
     }
-    let line = read_line(Line { bytes: plan, at }).map_err(|finding| finding.lend(plan))?;
+    let line = read_line(Line {
+        sheet: Sheet::Plan,
+        bytes: plan,
+        at,
+    })
+    .map_err(|finding| finding.lend(plan))?;
     Ok(Some(line))
 }

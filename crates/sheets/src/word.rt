@@ -1,6 +1,5 @@
 // Words and letters of the plan sheet.
 ghost use Rattle.std.specs.Prelude.{◌≡◌, ℕ, ◌+◌, ◌≤◌, List, [], ◌∷◌, is_some, length, not, Option, Some};
-ghost use Rattle.sheets.specs.declared.fault.Sheet.TheVariants as sheets;
 ghost use Rattle.sheets.specs.declared.fault.Wrong.TheVariants as wrongs;
 ghost use Rattle.sheets.specs.Checks.{tell_if, field_finding};
 ghost use Rattle.sheets.specs.Lines.{part};
@@ -9,7 +8,7 @@ ghost use Rattle.sheets.specs.Script.{fields_behind, script_word};
 ghost use Rattle.sheets.specs.Words.{head_word, letter_code};
 
 use crate::command::Word;
-use crate::fault::{Finding, Sheet, Wrong};
+use crate::fault::{Finding, Wrong};
 use crate::line::Line;
 use crate::parsed::Head;
 
@@ -54,9 +53,10 @@ impl Spelled for Word {
 // What the first word of a line of the plan sheet stands for.
 pub(crate) fn read_word<W: Spelled>(line: Line<'_>) -> Result<W, Finding>
     requires { line.at.offset + 4 ≤ length line.bytes.now }
-    ensures { Reads sheets.Plan line.entry.bytes.now (tell_if (not (is_some (W.spelled (part line.entry.bytes.now line.entry.at.offset 4)))) (field_finding wrongs.UnknownWord sheets.Plan line.entry.at.line line.entry.at.offset 0 4) ∷ []) (λ w. W.spelled (part line.entry.bytes.now line.entry.at.offset 4) ≡ Some w) result }
+    ensures { Reads line.entry.sheet line.entry.bytes.now (tell_if (not (is_some (W.spelled (part line.entry.bytes.now line.entry.at.offset 4)))) (field_finding wrongs.UnknownWord line.entry.sheet line.entry.at.line line.entry.at.offset 0 4) ∷ []) (λ w. W.spelled (part line.entry.bytes.now line.entry.at.offset 4) ≡ Some w) result }
 {
-    W::spelled_by(line.field(0, 4)).ok_or(line.fault(Wrong::UnknownWord, Sheet::Plan, 0, 4))
+    let field = line.field(0, 4);
+    W::spelled_by(field.bytes()).ok_or(field.fault(Wrong::UnknownWord))
 }
 
 // The relation code that a letter stands for: the byte that a load takes.

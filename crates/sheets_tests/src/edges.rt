@@ -54,17 +54,11 @@ fn read_and_zero_behind(rt: HostRuntime) -> Result<(), Fail> {
 // 64 modules are read.
 #[test]
 fn as_many_as_can_be(rt: HostRuntime) -> Result<(), Fail> {
-    let mut sizes = Vec::new(rt.alloc());
+    let sizes = b"  100000       1\n".repeat(rt.alloc(), 64)?;
+    let row = b"................................................................\n";
     let mut plan = b"PLAN  64\n".to_vec(rt.alloc())?;
-    for _ in 0..64 {
-        sizes.extend_from_slice(b"  100000       1\n")?;
-        plan.extend_from_slice(
-            b"................................................................\n",
-        )?;
-    }
-    for _ in 0..64 {
-        plan.extend_from_slice(b"   0")?;
-    }
+    plan.extend_from_slice(&row.repeat(rt.alloc(), 64)?)?;
+    plan.extend_from_slice(&b"   0".repeat(rt.alloc(), 64)?)?;
     plan.push(b'\n')?;
     assert_eq!(rt; told(&sizes, &plan), [0; 5]);
     Ok(())

@@ -4,7 +4,7 @@ use plans::Refusal;
 use sheets::parse;
 
 // What parsing answers, as numbers: the fault's number, sheet, line, column and the width of
-// its field, or five zeros where it is done.
+// its field, or five zeros where it is done. They stay numbers: the listing prints them so.
 pub fn told(sizes: &[u8], plan: &[u8]) -> [usize; 5] {
     let none = Sides {
         width: Plain(0),

@@ -5,6 +5,7 @@ use std::test::Fail;
 
 // What reading the first line of a sheet answers, as numbers: a fault's number, line, column
 // and the width of its field; or the command's kind, 1 to 7, its modules and the next offset.
+// They stay numbers, since a `Command` and a `Fault` have no `==` to compare by.
 fn told(plan: &[u8]) -> [usize; 4] {
     match read_command(plan, Place { offset: 0, line: 1 }) {
         Err(fault) => [

@@ -1,9 +1,8 @@
 -- What is told lies in the plan sheet, so it is lent.
-use Rattle.std.proofs.Common.{◌≡◌, arith, rules}
+use Rattle.std.proofs.Common.{rules}
 use Rattle.reading.proofs.Told.{told_there}
 use Rattle.reading.proofs.refused.refused.Goals as goal
 use Rattle.reading.proofs.refused.refused.Goals.{in-WrongShape, in-WrongPlace, in-WrongCode2}
-use Rattle.reading.specs.PlanFaults.{plan_finding}
 
 pub returns : goal.returns
 returns c =

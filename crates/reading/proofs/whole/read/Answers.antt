@@ -1,11 +1,12 @@
 -- A fault of parsing, a refused load, or what the plan sheet says.
-use Rattle.std.proofs.Common.{◌≡◌, Ok, MatchResult, inl, rules}
+use Rattle.std.proofs.Common.{◌≡◌, Ok, MatchResult, inl, arith, rules}
+use Rattle.std.proofs.lemmas.List.{length-take-le}
 use Rattle.std.proofs.lemmas.Result.{err_from_is_err_and}
 use Rattle.sheets.specs.Checks.{first}
 use Rattle.sheets.specs.Parsing.{checks_for, held, Tells}
 use Rattle.reading.specs.PlanFaults.{plan_finding}
 use Rattle.reading.specs.Outcome.{load_fault}
-use Rattle.reading.proofs.AfterParsing.{Done, codes_end, places_end, placed, done_answered, done_means, done_law, refused_answered, refused_means, refused_law, told_if_refused, refusal_told}
+use Rattle.reading.proofs.AfterParsing.{Done, square_small, codes_end, places_end, placed, done_answered, done_means, done_law, refused_answered, refused_means, refused_law, told_if_refused, refusal_told}
 use Rattle.reading.proofs.Outcomes.{parse_fault, parse_fault_keeps}
 use Rattle.reading.proofs.whole.read.Given as given
 use Rattle.reading.proofs.whole.read.Goals as goal
@@ -37,23 +38,43 @@ after_parsing g c = record {
   places_kept = c.parse.auto.places;
 }
 
-pub load_front-loaded-requires : goal.load_front-loaded-requires
-load_front-loaded-requires g c =
-    let d = after_parsing g (goal.at.load_front-loaded-requires g c).In_ok-parsed in
-    record { codes = codes_end d; places = places_end d }
+pub overflow_mul-modules : goal.overflow_mul-modules
+overflow_mul-modules g c =
+    let d = after_parsing g (goal.at.overflow_mul-modules g c).In_ok-parsed in
+    omega (arith, square_small d)
+
+pub slice_bounds-load-end : goal.slice_bounds-load-end
+slice_bounds-load-end g c =
+    let d = after_parsing g (goal.at.slice_bounds-load-end g c).In_ok-parsed in
+    omega (arith, codes_end d)
+
+pub slice_bounds-load-end-2 : goal.slice_bounds-load-end-2
+slice_bounds-load-end-2 g c =
+    let d = after_parsing g (goal.at.slice_bounds-load-end-2 g c).In_ok-parsed in
+    omega (arith, length-take-le _ c.parse.new.codes (codes_end d))
+
+pub slice_bounds-load-end-3 : goal.slice_bounds-load-end-3
+slice_bounds-load-end-3 g c =
+    let d = after_parsing g (goal.at.slice_bounds-load-end-3 g c).In_ok-parsed in
+    omega (arith, places_end d)
+
+pub slice_bounds-load-end-4 : goal.slice_bounds-load-end-4
+slice_bounds-load-end-4 g c =
+    let d = after_parsing g (goal.at.slice_bounds-load-end-4 g c).In_ok-parsed in
+    omega (arith, length-take-le _ c.parse.new.places (places_end d))
 
 pub map_err-requires : goal.map_err-requires
 map_err-requires g c =
     let d = after_parsing g (goal.at.map_err-requires g c).In_ok-parsed in
-    λ e was κs names args ranges u fits l. (placed d, told_if_refused d _ _ c.load_front-loaded.result c.load_front-loaded.ensures e was)
+    λ e was κs names args ranges u fits l. (placed d, told_if_refused d _ _ c.load-loaded.result c.load-loaded.ensures e was)
 
 pub returns-in_err-map_err : goal.returns-in_err-map_err
 returns-in_err-map_err g c =
     let d = after_parsing g (goal.at.returns-in_err-map_err g c).In_ok-parsed in
     let p = err_from_is_err_and c.from_residual-in_err-map_err.result c.from_residual-in_err-map_err.ensures.1 in
     let fault = c.in_err-map_err.field-0.0 in
-    let told : MatchResult c.load_front-loaded.result (λ x. ⊥) (λ e. Tells c.args.plan (plan_finding c.args.plan.now c.in_ok-parsed.parsed.modules e) fault) = search rules in
-    let w = refusal_told d _ _ fault c.load_front-loaded.result c.load_front-loaded.ensures told in
+    let told : MatchResult c.load-loaded.result (λ x. ⊥) (λ e. Tells c.args.plan (plan_finding c.args.plan.now c.in_ok-parsed.parsed.modules e) fault) = search rules in
+    let w = refusal_told d _ _ fault c.load-loaded.result c.load-loaded.ensures told in
     record {
       answer = rw (p.1, p.2) (refused_answered d _ _ w.0 w.1 fault w.2);
       lists = d.left;
@@ -64,6 +85,6 @@ returns-in_err-map_err g c =
 pub returns : goal.returns
 returns g c =
     let d = after_parsing g (goal.at.returns g c).In_ok-parsed in
-    let ok : c.load_front-loaded.result ≡ Ok tt = search rules in
-    let loaded = rw ok at c.load_front-loaded.ensures in
+    let ok : c.load-loaded.result ≡ Ok tt = search rules in
+    let loaded = rw ok at c.load-loaded.ensures in
     record { answer = done_answered d _ _ loaded; lists = d.left; meaning = done_means d _ _ loaded; law = done_law d _ _ loaded }

@@ -60,7 +60,7 @@ returns-in_err-last c =
     let f = c.in_err-last.field-0.0 in
     let long : length (take m c.args.sides.now) ≡ m = length-take-le _ _ (omega (arith, c.requires.sides.room)) in
     let sizes_passed = subst (λ k. Passes (sizes_checks sizes k)) (long ∙ head.1.1) c.in_ok-read_sizes.ensures.0 in
-    let fails = subst (λ k. Fails Plan plan (rows_checks plan k) f) head.1.1 (subst (λ s. Fails Plan s (rows_checks s m) f) (ap (λ b. b.now) head.1.3) c.in_err-last.ensures) in
+    let fails = subst (λ k. Fails Plan plan (rows_checks plan k) f) head.1.1 (subst (λ s. Fails Plan s (rows_checks s m) f) (ap (λ b. b.now) head.1.4) c.in_err-last.ensures) in
     rw (p.1, p.2)
     (found sizes plan Plan _ f (fails_behind c.in_ok-check_lengths.ensures (fails_behind head.0 (fails_behind sizes_passed (fails_front (last_checks plan (modules_of plan)) fails)))))
 
@@ -73,13 +73,13 @@ returns-in_err-read_sequence c =
     let head = c.in_ok-head.ensures in
     let rows = c.in_ok-last.ensures in
     let f = c.in_err-read_sequence.field-0.0 in
-    let same = ap (λ b. b.now) head.1.3 in
+    let same = ap (λ b. b.now) head.1.4 in
     let long : length (take m c.args.sides.now) ≡ m = length-take-le _ _ (omega (arith, c.requires.sides.room)) in
     let sizes_passed = subst (λ k. Passes (sizes_checks sizes k)) (long ∙ head.1.1) c.in_ok-read_sizes.ensures.0 in
     let rows_passed = subst (λ k. Passes (rows_checks plan k)) head.1.1 (subst (λ s. Passes (rows_checks s m)) same rows.0) in
-    let at = subst (λ s. IsLine s (m + 1) c.in_ok-last.last.at) same rows.1.1 in
+    let at = subst (λ s. IsLine s (m + 1) c.in_ok-last.last.at) same rows.1.2 in
     let wide : length (take m c.args.places.now) ≡ m = length-take-le _ _ (omega (arith, c.requires.places.room)) in
-    let fails = at_last (λ s w l o. Fails Plan s (sequence_checks s w l o) f) m _ (ap (λ b. b.now) rows.1.0 ∙ same) at wide head.1.1 c.in_err-read_sequence.ensures in
+    let fails = at_last (λ s w l o. Fails Plan s (sequence_checks s w l o) f) m _ (ap (λ b. b.now) rows.1.1 ∙ same) at wide head.1.1 c.in_err-read_sequence.ensures in
     rw (p.1, p.2)
     (found sizes plan Plan _ f (fails_behind c.in_ok-check_lengths.ensures (fails_behind head.0 (fails_behind sizes_passed (fails_behind rows_passed fails)))))
 
@@ -91,13 +91,13 @@ returns c =
     let head = c.in_ok-head.ensures in
     let rows = c.in_ok-last.ensures in
     let last = c.in_ok-read_sequence.ensures in
-    let same = ap (λ b. b.now) head.1.3 in
+    let same = ap (λ b. b.now) head.1.4 in
     let long : length (take m c.args.sides.now) ≡ m = length-take-le _ _ (omega (arith, c.requires.sides.room)) in
     let sizes_passed = subst (λ k. Passes (sizes_checks sizes k)) (long ∙ head.1.1) c.in_ok-read_sizes.ensures.0 in
     let rows_passed = subst (λ k. Passes (rows_checks plan k)) head.1.1 (subst (λ s. Passes (rows_checks s m)) same rows.0) in
-    let at = subst (λ s. IsLine s (m + 1) c.in_ok-last.last.at) same rows.1.1 in
+    let at = subst (λ s. IsLine s (m + 1) c.in_ok-last.last.at) same rows.1.2 in
     let wide : length (take m c.args.places.now) ≡ m = length-take-le _ _ (omega (arith, c.requires.places.room)) in
-    let bytes = ap (λ b. b.now) rows.1.0 ∙ same in
+    let bytes = ap (λ b. b.now) rows.1.1 ∙ same in
     let last_passed = at_last (λ s w l o. Passes (sequence_checks s w l o)) m _ bytes at wide head.1.1 last.0 in
     let passed = subst (λ s. Passed s c.in_ok-last.last.at.offset (4 * m)) bytes (subst (λ w. Passed c.in_ok-last.last.bytes.now c.in_ok-last.last.at.offset (4 * w)) wide last.1.1) in
     let e : m ≡ modules_of plan = head.1.1 in
@@ -112,7 +112,7 @@ returns c =
         codes_read =
             subst (λ k. Filled 0 (code_read plan k) (k * k) (c.read_rows.new.codes ++ drop (m * m) c.args.codes.now)) e
             (filled_front 0 (code_read plan m) (m * m) c.args.codes.now c.read_rows.new.codes c.requires.codes.clear (c.read_rows.auto.codes ∙ length-take-le _ _ (omega (arith, mul-le m m 64 64 head.1.2 head.1.2, c.requires.codes.room)))
-            (subst (λ s. Front 0 (code_read s m) (m * m) c.read_rows.new.codes) same rows.1.2));
+            (subst (λ s. Front 0 (code_read s m) (m * m) c.read_rows.new.codes) same rows.1.3));
         places_read =
             subst (λ k. Filled 0 (place_read plan (modules_of plan)) (modules_of plan) (c.read_sequence.new.places ++ drop k c.args.places.now)) (sym e)
             (filled_front 0 (place_read plan (modules_of plan)) (modules_of plan) c.args.places.now c.read_sequence.new.places c.requires.places.clear (c.read_sequence.auto.places ∙ wide ∙ e)

@@ -12,7 +12,7 @@ returns-in_err-code c =
     let p = err_from_is_err_and c.from_residual-in_err-code.result c.from_residual-in_err-code.ensures.1 in
     let line = c.args.line in
     let loop = c.loop-j.invariant in
-    rw (p.1, p.2) (fails_behind c.in_ok-check_width.ensures.0
+    rw (p.1, p.2) (fails_behind (rw c.requires.plan at c.in_ok-check_width.ensures.0)
     (each_fails (letter_checks line.bytes.now line.at.line line.at.offset) _ c.loop-j.j c.loop-j-test.true loop.passed c.in_err-code.ensures))
 
 pub loop-j-preserved : goal.loop-j-preserved
@@ -28,6 +28,6 @@ pub returns : goal.returns
 returns c =
     let line = c.args.line in
     let loop = c.loop-j.invariant in
-    let width = c.in_ok-check_width.ensures in
+    let width = rw c.requires.plan at c.in_ok-check_width.ensures in
     let all = each_passes (letter_checks line.bytes.now line.at.line line.at.offset) (length c.args.codes.now) (λ k h. loop.passed k (omega arith)) in
     (passes_both width.0 all, (λ k h. loop.read k (omega arith), width.1))

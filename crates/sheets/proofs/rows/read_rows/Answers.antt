@@ -63,6 +63,7 @@ loop-i-preserved c =
     let passed = subst (λ s. Passed s line.at.offset m) same (subst (λ w. Passed line.bytes.now line.at.offset w) long done.1.1) in
     let kept : length c.read_row.new.codes ≡ m = c.read_row.auto.codes ∙ long in
     record {
+      sheet = next.sheet ∙ loop.sheet;
       same = next.bytes ∙ loop.same;
       at = next_is_line plan (i + 1) m _ _ loop.at passed next.offset next.line (omega arith);
       passed = passed_more (module_row_checks plan m) i loop.passed row;
@@ -81,6 +82,7 @@ returns c =
     let all : c.loop-i.i ≡ m = omega arith in (
       each_passes (module_row_checks plan m) m (λ k h. loop.passed k (omega arith)),
       (
+        loop.sheet,
         loop.same,
         subst (λ i. IsLine plan (i + 1) c.loop-i.line.at) all loop.at,
         subst (λ i. Front 0 (code_read plan m) (i * m) c.loop-i.codes) all loop.read,

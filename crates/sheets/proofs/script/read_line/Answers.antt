@@ -13,7 +13,7 @@ use Rattle.sheets.proofs.script.read_line.Goals as goal
 pub returns-in_err-word : goal.returns-in_err-word
 returns-in_err-word c =
     let p = err_from_is_err_and c.from_residual.result c.from_residual.ensures.1 in
-    rw (p.1, p.2) (fails_behind (passes_here (le-ltb _ 4 (omega (arith, c.width.ensures.exact)))) (fails_front _ c.in_err-word.ensures))
+    rw (p.1, p.2) (fails_behind (passes_here (le-ltb _ 4 (omega (arith, c.width.ensures.exact)))) (fails_front _ (rw c.requires.plan at c.in_err-word.ensures)))
 
 pub returns-in_err-command : goal.returns-in_err-command
 returns-in_err-command c =
@@ -22,7 +22,7 @@ returns-in_err-command c =
     let n = c.args.line.at.line in
     let s = c.args.line.at.offset in
     let known = sym (ap word_or c.in_ok-word.ensures.1) in
-    let width = rw c.fields_behind.ensures at c.in_ok-check_width.ensures.0 in
+    let width = rw (c.fields_behind.ensures, c.requires.plan) at c.in_ok-check_width.ensures.0 in
     let fails = fails_behind width c.in_err-command.ensures in
     let found =
     subst
@@ -30,4 +30,4 @@ returns-in_err-command c =
     (tell_if (not (has_width plan s (4 + 4 * fields_behind w))) (line_finding Plan n) ∷ (operand_checks plan n s (fields_behind w) 0 ++ operand_checks plan n s (fields_behind w) 1))
     c.in_err-command.field-0.0)
     known fails in
-    rw (p.1, p.2) (fails_behind (passes_here (le-ltb _ 4 (omega (arith, c.width.ensures.exact)))) (fails_behind c.in_ok-word.ensures.0 found))
+    rw (p.1, p.2) (fails_behind (passes_here (le-ltb _ 4 (omega (arith, c.width.ensures.exact)))) (fails_behind (rw c.requires.plan at c.in_ok-word.ensures.0) found))

@@ -12,14 +12,14 @@ returns-in_err-place c =
     let p = err_from_is_err_and c.from_residual-in_err-place.result c.from_residual-in_err-place.ensures.1 in
     let line = c.args.line in
     let loop = c.loop-j.invariant in
-    rw (p.1, p.2) (fails_behind c.in_ok-check_width.ensures.0
-    (each_fails (place_checks line.bytes.now line.at.line line.at.offset) _ c.loop-j.j c.loop-j-test.true loop.passed c.in_err-place.ensures))
+    rw (p.1, p.2) (fails_behind (rw c.requires.plan at c.in_ok-check_width.ensures.0)
+    (each_fails (place_checks line.bytes.now line.at.line line.at.offset) _ c.loop-j.j c.loop-j-test.true loop.passed (rw (c.field.ensures.line, c.field.ensures.offset, c.field.ensures.width, c.requires.plan) at c.in_err-place.ensures)))
 
 pub loop-j-preserved : goal.loop-j-preserved
 loop-j-preserved c =
     let line = c.args.line in
     let loop = c.loop-j.invariant in
-    let done = c.in_ok-place.ensures in
+    let done = rw (c.field.ensures.line, c.field.ensures.offset, c.field.ensures.width, c.requires.plan) at c.in_ok-place.ensures in
     record {
       passed = passed_more (place_checks line.bytes.now line.at.line line.at.offset) c.loop-j.j loop.passed done.0;
       read = front_more 0 (λ k. number_at line.bytes.now (line.at.offset + 4 * k) 4) c.loop-j.j c.loop-j.places _ (omega arith) done.1 loop.read;
@@ -29,6 +29,6 @@ pub returns : goal.returns
 returns c =
     let line = c.args.line in
     let loop = c.loop-j.invariant in
-    let width = c.in_ok-check_width.ensures in
+    let width = rw c.requires.plan at c.in_ok-check_width.ensures in
     let all = each_passes (place_checks line.bytes.now line.at.line line.at.offset) (length c.args.places.now) (λ k h. loop.passed k (omega arith)) in
     (passes_both width.0 all, (λ k h. loop.read k (omega arith), width.1))

@@ -40,6 +40,7 @@ loop-side-preserved c =
     let read : c.in_ok-side.field-0 ≡ sides_read sizes i =
     at_line (λ s n o. c.in_ok-side.field-0 ≡ sides_of (number_at s (o + 0) 8) (number_at s (o + 8) 8)) loop.same loop.at done.1.0 in
     record {
+      sheet = next.sheet ∙ loop.sheet;
       same = ap (λ b. b.now) next.bytes ∙ loop.same;
       at = next_is_line sizes i 16 _ _ loop.at line next.offset next.line (omega arith);
       passed = passed_more (size_checks sizes) i loop.passed passes;
@@ -54,7 +55,7 @@ returns-then-goes_on c =
     let all : c.loop-side.side-index ≡ m = omega arith in
     let line : c.loop-side.line.at.line ≡ m + 1 = loop.at.line ∙ ap (λ i. i + 1) all in
     let on = ended sizes _ _ m _ true loop.same loop.at all c.if-goes_on.ensures in
-    rw (c.wrong_length.ensures, line)
+    rw (c.wrong_length.ensures, loop.sheet, line)
     (fails_behind (each_passes (size_checks sizes) m (λ k h. loop.passed k (omega arith))) (fails_here on refl (omega arith) refl))
 
 pub returns : goal.returns
