@@ -9,7 +9,8 @@ use lengths::{Counted, Plain};
 use plans::Sides;
 use std::alloc::{AllocError, Global};
 
-// A side with one border.
+// A side with one border. That the side is possible is asked from here up: only the range of what a reading leaves in
+// the caller's list says so, and that list's type is the caller's.
 fn with_border(side: Plain) -> Counted
     requires { PossibleSide side }
     ensures { count_of result ≡ bordered side.0 }
