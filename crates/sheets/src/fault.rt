@@ -1,5 +1,5 @@
 // What can be wrong with a sheet, and how a fault tells where.
-ghost use Rattle.std.specs.Prelude.{◌≡◌, ◌+◌, ◌^◌, ◌<◌};
+ghost use Rattle.std.specs.Prelude.{◌≡◌, ◌+◌, ◌^◌, ◌<◌, ◌-◌, min};
 ghost use Rattle.sheets.specs.Checks.{whole_finding, line_finding, field_finding};
 ghost use Rattle.sheets.specs.Faults.{number_of, layer_of, sheet_number};
 
@@ -139,7 +139,8 @@ impl Finding {
     // A fault of the field that stands `offset` bytes into the line at a place. What is told stays at the largest
     // number that there is, which no sheet reaches.
     pub fn field(wrong: Wrong, sheet: Sheet, at: Place, offset: usize, width: usize) -> Finding
-        ensures { at.offset + offset + 1 < 2 ^ 64 → result ≡ field_finding wrong sheet at.line at.offset offset width }
+        ensures fits { at.offset + offset + 1 < 2 ^ 64 → result ≡ field_finding wrong sheet at.line at.offset offset width }
+        ensures capped { result ≡ record (field_finding wrong sheet at.line at.offset offset width) { column = min (offset + 1) (2 ^ 64 - 1); from = min (at.offset + offset) (2 ^ 64 - 1) } }
     {
         Finding {
             wrong,

@@ -1,5 +1,5 @@
 // Faults that lend their field from a sheet.
-ghost use Rattle.std.specs.Prelude.{◌+◌, ◌≤◌, length};
+ghost use Rattle.std.specs.Prelude.{◌+◌, ◌<◌, ◌≤◌, length};
 ghost use Rattle.sheets.specs.Parsing.{Tells, of_sheet};
 
 use crate::fault::{Fault, Finding, Sheet};
@@ -7,14 +7,13 @@ use crate::fault::{Fault, Finding, Sheet};
 impl Finding {
     // The fault that tells this, with its field as a part of the sheet; an empty part where the sheet has no such field.
     pub fn lend<'a>(self, sheet: &'a [u8]) -> Fault<'a>
-        ensures { self.from + self.width ≤ length sheet.entry.now → Tells sheet.entry self result }
+        ensures lent { self.from + self.width ≤ length sheet.entry.now → Tells sheet.entry self result }
+        ensures outside { length sheet.entry.now < self.from + self.width → Tells sheet.entry (record self { from = 0; width = 0 }) result }
     {
-        let end = self.from.saturating_add(self.width);
         // `get` with `unwrap_or` reads shorter, but its proof of where in the sheet the field lies did not close.
-        let field = if end <= sheet.len() {
-            &sheet[self.from..end]
-        } else {
-            &sheet[..0]
+        let field = match self.from.checked_add(self.width) {
+            Some(end) if end <= sheet.len() => &sheet[self.from..end],
+            _ => &sheet[..0],
         };
         Fault {
             wrong: self.wrong,
