@@ -15,4 +15,4 @@ returns c =
       | in-WrongPlace w ↦ search rules
       | in-WrongCode2 w ↦ search rules
     ])
-    c.lend.ensures
+    c.lend.ensures.lent
