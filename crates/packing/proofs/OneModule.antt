@@ -4,7 +4,7 @@ use Rattle.std.proofs.lemmas.List.{get_or-take, length-take}
 use Rattle.std.proofs.lemmas.Bool.Decides.{nat_tests}
 use Rattle.lengths.specs.Sums.{SumWithin}
 use Rattle.plans.proofs.FlatAxes.{sums_within}
-use Rattle.plans.proofs.KindLaws.{later_laws}
+use Rattle.plans.proofs.KindLaws.{join_laws}
 use Rattle.plans.proofs.PublishedLoad.{fits_names}
 use Rattle.plans.proofs.SequenceWalk.{free_along, near_along}
 use Rattle.plans.specs.Axes.{free_edge, pushed}
@@ -35,7 +35,7 @@ not_not false = refl
 
 module _ {L : Type 0} (K : Kind L) (law : Lawful K) (t : Task L) (pins : Pins L) (n : ℕ) (ready : Ready K t pins n) where
   join : JoinLaws K
-  join = (later_laws K law.sum law.total).join
+  join = join_laws K law
 
   -- each module has a place
   pub module_places : (j : ℕ) → j < t.plan.size → (l : ℕ) × (l < t.plan.size) × (get_or t.plan.sequence l 0 ≡ j)

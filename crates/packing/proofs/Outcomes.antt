@@ -4,12 +4,13 @@ use Rattle.std.specs.List.{range_with_len}
 use Rattle.std.proofs.lemmas.List.FromFn.{length-map-range_with_len}
 use Rattle.std.proofs.lemmas.List.{drop_at}
 use Rattle.std.proofs.lemmas.Bool.{cond-true, cond-false, not-true, not-false}
+use Rattle.plans.proofs.KindLaws.{later_laws, join_laws}
 use Rattle.plans.proofs.PackRefusals.{not_refused_packable, not_refused_pinned, not_refused_rotated}
-use Rattle.plans.proofs.PackingAnswers.{answered_not_refused, pack_answers, pinned_answers, rotated_answers}
-use Rattle.plans.proofs.PackingLaws.{rotated_law}
+use Rattle.plans.proofs.PackingAnswers.{pack_answers, pinned_answers, rotated_answers, pack_paths, rotated_paths}
 use Rattle.plans.specs.Kinds.{Kind, Lawful}
 use Rattle.plans.specs.Packing.{Task, Pins, no_pins, packed_module, packed_chip, packed_list}
-use Rattle.plans.specs.PackingCalls.{Outcome, pack_refusal, pin_refusal, rotation_refusal, no_place, refused_or, packed_outcome, after_pack, after_pack_pinned}
+use Rattle.plans.specs.PackingAnswers.{ShowsChip, ShowsPaths, TellsPinned}
+use Rattle.plans.specs.PackingCalls.{Outcome, pack_refusal, pin_refusal, rotation_refusal, no_place, refused_or, packed_outcome, after_pack, after_pack_pinned, after_pack_rotated}
 use Rattle.plans.specs.PackingTheorems.{NearPins, rotated_task}
 use Rattle.plans.specs.Tables.{Floorplan, Feasible}
 use Rattle.plans.specs.declared.measures.Chip.{Chip}
@@ -18,9 +19,8 @@ use Rattle.plans.specs.declared.measures.Sides.{Sides}
 use Rattle.plans.specs.declared.pack_refusals.PackRefusal.{PackRefusal}
 use Rattle.plans.specs.declared.pack_refusals.PinnedRefusal.{PinnedRefusal}
 use Rattle.plans.specs.declared.pack_refusals.PinnedRefusal.TheVariants as pinned
-use Rattle.plans.specs.declared.pack_refusals.RotationRefusal.{RotationRefusal}
 use Rattle.packing.proofs.Chips.{chip_packed}
-use Rattle.packing.specs.Calls.{Gives, Packs, PacksPinned, PacksRotated, PacksFreely, PacksOnceMore, ShowsPacking, ShowsPinned}
+use Rattle.packing.specs.Calls.{Gives, Packs, PacksPinned, PacksRotated, PacksFreely, PacksOnceMore, ShowsPacking, ShowsLongest, ShowsPinned}
 use Rattle.packing.specs.Corners.{chip_around}
 use Rattle.packing.specs.Steps.{Ready}
 use Rattle.packing.specs.Tasks.{pin_of}
@@ -32,6 +32,13 @@ some_place fits none e f = not-true none (sym e ∙ f)
 
 pub not_placed : (fits none : Bool) → fits ≡ not none → fits ≡ false → none ≡ true
 not_placed fits none e f = not-false none (sym e ∙ f)
+
+-- an answer and a list that are those of an outcome tell what it tells
+carried_over :
+    {L E : Type 0} (P : Outcome L E → Type 0) (answer : Result (Chip L) E) (after : List (Placed L)) (o : Outcome L E)
+    → Gives o answer after → P o → P (record { answer = answer; results = after })
+carried_over P answer after o gives =
+    subst P (λ x. record { answer = sym gives.0 x; results = sym gives.1 x })
 
 module _ {L : Type 0} (K : Kind L) where
   none_near : NearPins K no_pins
@@ -84,8 +91,16 @@ module _ {L : Type 0} (K : Kind L) (t : Task L) (before : List (Placed L)) (feas
   pub pack_shows :
       Lawful K → (answer : Result (Chip L) PackRefusal) (after : List (Placed L)) → Packs K t before answer after
       → ShowsPacking K t before answer after
-  pack_shows law answer after gives chip e =
-      rw gives.1 (pack_answers K law t feasible before chip (sym gives.0 ∙ e))
+  pack_shows law answer after gives =
+      carried_over (ShowsChip K t before) answer after (after_pack K t before) gives
+      (pack_answers K law.sum (join_laws K law) t feasible before)
+
+  pub pack_shows_paths :
+      Lawful K → (answer : Result (Chip L) PackRefusal) (after : List (Placed L)) → Packs K t before answer after
+      → ShowsLongest K t before answer after
+  pack_shows_paths law answer after gives =
+      carried_over (ShowsPaths K t before) answer after (after_pack K t before) gives
+      (pack_paths K law.sum (later_laws K law.sum law.total) t feasible before)
 
   -- pack with a module pinned
   module _ (p : Pin L) where
@@ -140,29 +155,12 @@ module _ {L : Type 0} (K : Kind L) (t : Task L) (before : List (Placed L)) (feas
         Lawful K → (answer : Result (Chip L) PinnedRefusal) (after : List (Placed L)) → PacksPinned K t before p answer after
         → ShowsPinned K t before p answer after
     pinned_shows law answer after gives =
-        let q = pinned_answers K law t feasible before p.«module» p.across p.up in
-        record {
-          answered = λ chip e. rw gives.1 (q.answered chip (sym gives.0 ∙ e));
-          nowhere = λ e. q.nowhere (sym gives.0 ∙ e);
-          always = λ allowed nothing. gives.0 ∙ q.always allowed nothing;
-          unpinned = λ e. rw gives.1 (q.unpinned (sym gives.0 ∙ e));
-        }
+        carried_over (TellsPinned K t before p.«module» p.across p.up) answer after
+        (after_pack_pinned K t before p.«module» p.across p.up) gives
+        (pinned_answers K law.sum (join_laws K law) t feasible before p.«module» p.across p.up)
 
   -- pack with a module rotated once more
   module _ (a : ℕ) where
-    pub rotated_shows :
-        Lawful K → (answer : Result (Chip L) RotationRefusal) (after : List (Placed L))
-        → PacksRotated K t before a answer after → ShowsPacking K (rotated_task t a) before answer after
-    rotated_shows law answer after gives chip e =
-        let answered = sym gives.0 ∙ e in
-        let allowed =
-        answered_not_refused K (rotation_refusal K t before a) before (packed_outcome K (rotated_task t a) no_pins before)
-        chip answered in
-        rw gives.1 (
-          rotated_answers K law t feasible before a chip answered,
-          (rotated_law K law t feasible before a allowed.0).longest,
-        )
-
     -- packing the task with the module rotated once more
     pub rotated_packed :
         Lawful K → rotation_refusal K t before a ≡ None → (u : Task L) (chip : Chip L) (after : List (Placed L))
@@ -173,13 +171,21 @@ module _ {L : Type 0} (K : Kind L) (t : Task L) (before : List (Placed L)) (feas
         let out : Gives (packed_outcome K {E = PackRefusal} looked no_pins before) (Ok chip) after =
         subst (λ o. Gives o (Ok chip) after)
         (outcome_allowed K (pack_refusal K looked before) before (packed_outcome K looked no_pins before) none)
-        (subst (λ v. Packs K v before (Ok chip) after) same packed.0) in
+        (subst (λ v. Packs K v before (Ok chip) after) same packed.outcome) in
         let made : chip ≡ packed_chip K looked no_pins = cc out.0 in
         let gives : PacksRotated K t before a (Ok chip) after =
         subst (λ o. Gives o (Ok chip) after)
         (sym (outcome_allowed K (rotation_refusal K t before a) before (packed_outcome K looked no_pins before) allowed))
         ((λ x. Ok (made x)), out.1) in
-        (gives, rotated_shows law (Ok chip) after gives)
+        record {
+          outcome = gives;
+          least =
+              carried_over (ShowsChip K looked before) (Ok chip) after (after_pack_rotated K t before a) gives
+              (rotated_answers K law.sum (join_laws K law) t feasible before a);
+          longest =
+              carried_over (ShowsPaths K looked before) (Ok chip) after (after_pack_rotated K t before a) gives
+              (rotated_paths K law.sum (later_laws K law.sum law.total) t feasible before a);
+        }
 
 -- a set with one module toggled makes the task with that module rotated once more
 pub toggled_task :

@@ -15,13 +15,14 @@ pub struct Job<'a, R, L> {
 
 impl<'a, R: Representation, L: Length> Job<'a, R, L> {
     ghost use Rattle.plans.specs.PackingTheorems.{rotated_task};
-    ghost use Rattle.packing.specs.Calls.{Packs, PacksPinned, PacksRotated, ShowsPacking, ShowsPinned};
+    ghost use Rattle.packing.specs.Calls.{Packs, PacksPinned, PacksRotated, ShowsPacking, ShowsLongest, ShowsPinned};
     ghost use Rattle.packing.specs.Tasks.{task_of};
 
     // Packs the modules and writes a record of each into the list; answers the chip.
     pub fn pack(&self, results: &mut [Placed<L>]) -> Result<Chip<L>, PackRefusal>
         ensures outcome { Packs L.Length.kind (task_of R.Representation.means self.now) results.old result results.new }
         ensures least { ShowsPacking L.Length.kind (task_of R.Representation.means self.now) results.old result results.new }
+        ensures longest { ShowsLongest L.Length.kind (task_of R.Representation.means self.now) results.old result results.new }
     {
         self.check_sides(results)?;
         Ok(self.pack_freely(results))
@@ -49,6 +50,7 @@ impl<'a, R: Representation, L: Length> Job<'a, R, L> {
     ) -> Result<Chip<L>, RotationRefusal>
         ensures outcome { PacksRotated L.Length.kind (task_of R.Representation.means self.now) results.old «module» result results.new }
         ensures least { ShowsPacking L.Length.kind (rotated_task (task_of R.Representation.means self.now) «module») results.old result results.new }
+        ensures longest { ShowsLongest L.Length.kind (rotated_task (task_of R.Representation.means self.now) «module») results.old result results.new }
     {
         self.check_rotation(results, module)?;
         Ok(self.pack_once_more(results, module))

@@ -53,7 +53,7 @@ module _ {L : Type 0} (K : Kind L) (sum : SumLaws K) (join : JoinLaws K) (x : Ax
       latest_least K sum join (λ j. x.before j i) (λ j. x.step j (near j)) x.size (e i)
       (λ j g c.
       sum.transitive (x.step j (near j)) (x.step j (e j)) (e i)
-      (law.monotone j (near j) (e j) g (inside j g) (below j g)) (keeps.relations j i g h c))
+      (law.monotone j (near j) (e j) g (inside j i g h c) (below j g)) (keeps.relations j i g h c))
 
   fixed_or_free :
       (e : ℕ → L) → Keeps K x e → (i : ℕ) → i < x.size → (free : L) → AtMost K free (e i)

@@ -3,14 +3,23 @@ use Rattle.std.proofs.Common.{◌≡◌, ℕ, zero, suc, ◌+◌, ◌*◌, ◌<�
 use Rattle.std.proofs.lemmas.Bool.{cond_both, not-false, and_parts, leb-true, eqb-true, eq-eqb, ne_eqb}
 use Rattle.plans.proofs.AxisPacking.{fewer_before, some_not_before}
 use Rattle.plans.proofs.Latest.{latest_extent}
-use Rattle.plans.specs.Axes.{Inside, free_edge, near_within, near_edge}
+use Rattle.plans.specs.Axes.{free_edge, near_within, near_edge}
 use Rattle.plans.specs.AxisTheorems.{Orderly}
 use Rattle.plans.specs.Kinds.{Kind, SumLaws, JoinLaws, possible_side, side_limit, pin_limit, sum_limit}
 use Rattle.plans.specs.Packing.{Task, Pins, side_along, side_of, axis_of, far_of}
-use Rattle.plans.specs.PackingTheorems.{Packable, NearPins, SumsWithin}
+use Rattle.plans.specs.PackingTheorems.{Packable, NearPins, SumsWithin, InsideByEnds}
+use Rattle.plans.specs.Placements.{EndsWithin, InsideAlong}
 use Rattle.plans.specs.Sequences.{count_before}
 use Rattle.plans.specs.Tables.{table_in}
 use Rattle.plans.specs.declared.measures.Sides.{Sides}
+
+-- what stands before another is one of the modules, so it is enough that each ends within the limit
+pub inside_by_ends : {L : Type 0} → InsideByEnds L
+inside_by_ends =
+    record {
+      enough = λ K t g e ends. record { steps = λ j i h k b. ends j h; ends = ends };
+      needed = λ K t g e inside. inside.ends;
+    }
 
 -- the side along an axis is one of the two
 pub either_side :
@@ -92,9 +101,12 @@ module _ {L : Type 0} (K : Kind L) (sum : SumLaws K) (join : JoinLaws K) (t : Ta
       (pins g i) refl
 
   -- every near edge and its side stay within the limit together
-  pub near_inside : Inside K (axis_of K t pins g) (near_edge K (axis_of K t pins g))
-  near_inside i h =
+  near_ends : EndsWithin K t g (near_edge K (axis_of K t pins g))
+  near_ends i h =
       far_within (near_edge K (axis_of K t pins g) i) i h (rounds_extent t.plan.size i h)
+
+  pub near_inside : InsideAlong K t g (near_edge K (axis_of K t pins g))
+  near_inside = inside_by_ends.enough K t g (near_edge K (axis_of K t pins g)) near_ends
 
   -- a near edge lies no further out than the sides before it reach, and the chip within the limit
   pub sums_within : SumsWithin K t pins g
@@ -102,8 +114,8 @@ module _ {L : Type 0} (K : Kind L) (sum : SumLaws K) (join : JoinLaws K) (t : Ta
       let near = near_edge K (axis_of K t pins g) in
       record {
         near = rounds_extent t.plan.size;
-        sums = near_inside;
+        sums = near_ends;
         span =
             latest_extent K sum join (λ i. true) (far_of K t g near) t.plan.size sum_limit
-            (λ i h _. rw (sum.sums (near i) (side_of K t g i) (near_inside i h)) (near_inside i h));
+            (λ i h _. rw (sum.sums (near i) (side_of K t g i) (near_ends i h)) (near_ends i h));
       }

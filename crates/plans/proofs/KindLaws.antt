@@ -1,7 +1,7 @@
 -- The laws of kinds of length: the later of two is a least upper bound, and plain and counted lengths are lawful.
 use Rattle.std.proofs.Common.{◌≡◌, ◌<◌, ◌≤◌, max, Bool, true, false, ◌⊎◌, refl, inl, inr, arith}
 use Rattle.std.proofs.lemmas.Bool.Decides.{nat_tests}
-use Rattle.plans.specs.Kinds.{Kind, AtMost, SumLaws, TotalLaws, Lawful, Count, count_at_most, plain_kind, counted_kind}
+use Rattle.plans.specs.Kinds.{Kind, AtMost, SumLaws, TotalLaws, JoinLaws, Lawful, Count, count_at_most, plain_kind, counted_kind}
 use Rattle.plans.specs.LaterOfTwo.{LaterLaws}
 
 module _ {L : Type 0} (K : Kind L) (sum : SumLaws K) (total : TotalLaws K) where
@@ -28,6 +28,10 @@ module _ {L : Type 0} (K : Kind L) (sum : SumLaws K) (total : TotalLaws K) where
         };
         picks = by_order (λ a b. (K.later a b ≡ a) ⊎ (K.later a b ≡ b)) (λ a b h e. inr e) (λ a b h e. inl e);
       }
+
+-- in a lawful kind the later of two is the least that both are at most
+pub join_laws : {L : Type 0} (K : Kind L) → Lawful K → JoinLaws K
+join_laws K law = (later_laws K law.sum law.total).join
 
 -- plain lengths are lawful
 pub plain_lawful : Lawful plain_kind

@@ -6,14 +6,14 @@ use Rattle.plans.proofs.AxisPacking.{packed_along}
 use Rattle.plans.proofs.FlatAxes.{axis_orderly, near_inside, sums_within}
 use Rattle.plans.proofs.Latest.{latest_later}
 use Rattle.plans.proofs.LongestPaths.{unfixed_free, longest_along}
-use Rattle.plans.specs.Axes.{Keeps, Inside, stuck}
+use Rattle.plans.specs.Axes.{Keeps, stuck}
 use Rattle.plans.specs.AxisTheorems.{PackedAlong, LongestAlong}
 use Rattle.plans.specs.Kinds.{Kind, AtMost, SumLaws, JoinLaws}
 use Rattle.plans.specs.LaterOfTwo.{LaterLaws}
 use Rattle.plans.specs.Packing.{Task, Pins, no_pins, side_of, axis_of, far_of, span_of}
 use Rattle.plans.specs.PackingCalls.{no_place}
 use Rattle.plans.specs.PackingTheorems.{Packable, NearPins, packed_placement, PackedPlan, PackedFreely}
-use Rattle.plans.specs.Placements.{Placement, KeepsPlan, InsidePlan, Overlap, clear, NoLater, LeastPlacement, NoPlacement}
+use Rattle.plans.specs.Placements.{Placement, KeepsPlan, EndsWithin, InsidePlan, Overlap, clear, NoLater, LeastPlacement, NoPlacement, ByLongestPaths}
 use Rattle.plans.specs.Tables.{table_in}
 
 module _ {L : Type 0} (K : Kind L) (t : Task L) (pins : Pins L) where
@@ -51,10 +51,10 @@ module _ {L : Type 0} (K : Kind L) (t : Task L) (pins : Pins L) where
       ]
 
 module _ {L : Type 0} (K : Kind L) (sum : SumLaws K) (join : JoinLaws K) (t : Task L) (pins : Pins L) where
-  module _ (g : ℕ) (e other : ℕ → L) (inside : Inside K (axis_of K t pins g) other) (below : (i : ℕ) → i < t.plan.size → AtMost K (e i) (other i)) where
+  module _ (g : ℕ) (e other : ℕ → L) (ends : EndsWithin K t g other) (below : (i : ℕ) → i < t.plan.size → AtMost K (e i) (other i)) where
     -- lower near edges have lower far edges and a lower span
     far_below : (i : ℕ) → i < t.plan.size → AtMost K (far_of K t g e i) (far_of K t g other i)
-    far_below i h = sum.ordered (e i) (other i) (side_of K t g i) (inside i h) (below i h)
+    far_below i h = sum.ordered (e i) (other i) (side_of K t g i) (ends i h) (below i h)
 
     span_below : AtMost K (span_of K t g e) (span_of K t g other)
     span_below =
@@ -62,17 +62,17 @@ module _ {L : Type 0} (K : Kind L) (sum : SumLaws K) (join : JoinLaws K) (t : Ta
 
   -- a placement with lower near edges is no later in anything
   no_later :
-      (e other : Placement L) → InsidePlan K t pins other
+      (e other : Placement L) → InsidePlan K t other
       → ((i : ℕ) → i < t.plan.size → AtMost K (e.across i) (other.across i))
       → ((i : ℕ) → i < t.plan.size → AtMost K (e.up i) (other.up i)) → NoLater K t e other
   no_later e other inside across up =
-      let width = span_below 1 e.across other.across inside.across across in
-      let height = span_below 2 e.up other.up inside.up up in
+      let width = span_below 1 e.across other.across inside.across.ends across in
+      let height = span_below 2 e.up other.up inside.up.ends up in
       record {
         near_across = across;
         near_up = up;
-        far_across = far_below 1 e.across other.across inside.across across;
-        far_up = far_below 2 e.up other.up inside.up up;
+        far_across = far_below 1 e.across other.across inside.across.ends across;
+        far_up = far_below 2 e.up other.up inside.up.ends up;
         width = width;
         height = height;
         area =
@@ -86,7 +86,7 @@ module _ {L : Type 0} (K : Kind L) (sum : SumLaws K) (join : JoinLaws K) (t : Ta
     along : (g : ℕ) → 0 < g → PackedAlong K (axis_of K t pins g)
     along g edge = packed_along K sum join (axis_of K t pins g) (axis_orderly K sum t ok pins g edge)
 
-    packed_inside : InsidePlan K t pins (packed_placement K t pins)
+    packed_inside : InsidePlan K t (packed_placement K t pins)
     packed_inside =
         record {
           across = near_inside K sum join t ok pins close 1 (omega arith);
@@ -106,16 +106,16 @@ module _ {L : Type 0} (K : Kind L) (sum : SumLaws K) (join : JoinLaws K) (t : Ta
           separate = keeps_separate K t pins ok (packed_placement K t pins) keeps;
           least = λ other kept inside.
               no_later (packed_placement K t pins) other inside
-              (across.least other.across kept.across inside.across)
-              (up.least other.up kept.up inside.up);
+              (across.least other.across kept.across inside.across.steps)
+              (up.least other.up kept.up inside.up.steps);
         }
 
     -- where one is, there is no placement
     packed_none : no_place K t pins ≡ true → NoPlacement K t pins
     packed_none none e keeps inside =
         elim (or_cases (stuck K (axis_of K t pins 1)) (stuck K (axis_of K t pins 2)) none) [
-          | inl s ↦ (along 1 (omega arith)).none s e.across keeps.across inside.across
-          | inr s ↦ (along 2 (omega arith)).none s e.up keeps.up inside.up
+          | inl s ↦ (along 1 (omega arith)).none s e.across keeps.across inside.across.steps
+          | inr s ↦ (along 2 (omega arith)).none s e.up keeps.up inside.up.steps
         ]
 
     -- a packing with pins
@@ -133,32 +133,32 @@ module _ {L : Type 0} (K : Kind L) (sum : SumLaws K) (join : JoinLaws K) (t : Ta
         }
 
 -- a packing without pins
-module _ {L : Type 0} (K : Kind L) (sum : SumLaws K) (later : LaterLaws K) (t : Task L) (ok : Packable K t) where
+module _ {L : Type 0} (K : Kind L) (sum : SumLaws K) (t : Task L) (ok : Packable K t) where
   no_pins_near : NearPins K no_pins
   no_pins_near g i v e = let z : ◌≡◌ {A = ℕ} 0 1 = cc in absurd (omega arith)
-
-  freely : PackedPlan K t no_pins
-  freely = packed_plan K sum later.join t no_pins ok no_pins_near
 
   always_place : no_place K t no_pins ≡ false
   always_place =
       or_from (stuck K (axis_of K t no_pins 1)) (stuck K (axis_of K t no_pins 2))
       (unfixed_free K (axis_of K t no_pins 1) (λ i h. refl)) (unfixed_free K (axis_of K t no_pins 2) (λ i h. refl))
 
-  longest : (g : ℕ) → 0 < g → LongestAlong K (axis_of K t no_pins g)
-  longest g edge =
-      longest_along K (axis_of K t no_pins g) sum later (axis_orderly K sum t ok no_pins g edge) (λ i h. refl)
-      (near_inside K sum later.join t ok no_pins no_pins_near g edge)
+  pub packed_freely : JoinLaws K → PackedFreely K t
+  packed_freely join =
+      let packed = packed_plan K sum join t no_pins ok no_pins_near in
+      record { within = packed.within; least = packed.least always_place }
 
-  pub packed_freely : PackedFreely K t
-  packed_freely =
-      record {
-        within = freely.within;
-        least = freely.least always_place;
-        longest = record {
+  -- is by longest paths where the later of two is one of the two
+  module _ (later : LaterLaws K) where
+    longest : (g : ℕ) → 0 < g → LongestAlong K (axis_of K t no_pins g)
+    longest g edge =
+        longest_along K (axis_of K t no_pins g) sum later (axis_orderly K sum t ok no_pins g edge) (λ i h. refl)
+        (near_inside K sum later.join t ok no_pins no_pins_near g edge).steps
+
+    pub packed_longest : ByLongestPaths K t (packed_placement K t no_pins)
+    packed_longest =
+        record {
           across = (longest 1 (omega arith)).lengths;
           up = (longest 2 (omega arith)).lengths;
           across_path = (longest 1 (omega arith)).paths;
           up_path = (longest 2 (omega arith)).paths;
-        };
-      }
+        }

@@ -15,7 +15,7 @@ module _ {L : Type 0} (K : Kind L) (sum : SumLaws K) (x : Axis L) (law : Orderly
       → AtMost K (x.step j start) (e k)
   step_covered start j k h l b s =
       sum.transitive (x.step j start) (x.step j (e j)) (e k)
-      (law.monotone j start (e j) h (inside j h) s) (keeps.relations j k h l b)
+      (law.monotone j start (e j) h (inside j k h l b) s) (keeps.relations j k h l b)
 
   path_covered :
       (j : ℕ) (js : List ℕ) (start : L) (i : ℕ) → i < x.size → Leads K x (j ∷ js) i → AtMost K start (e j)

@@ -4,14 +4,16 @@ use Rattle.std.specs.List.{range_with_len}
 use Rattle.std.specs.Option.{option_map}
 use Rattle.std.proofs.lemmas.List.FromFn.{length-map-range_with_len, get_or-map-range_with_len}
 use Rattle.std.proofs.lemmas.List.{length-append, length-drop, get_or_append_left, get_or-append_right, get_or-drop}
+use Rattle.plans.proofs.LeastPlacements.{packed_longest}
 use Rattle.plans.proofs.PackRefusals.{not_refused_packable, not_refused_pinned, not_refused_rotated}
 use Rattle.plans.proofs.PackingLaws.{pack_law, pinned_law, rotated_law}
-use Rattle.plans.specs.Kinds.{Kind, Lawful, pin_limit}
+use Rattle.plans.specs.Kinds.{Kind, SumLaws, JoinLaws, pin_limit}
+use Rattle.plans.specs.LaterOfTwo.{LaterLaws}
 use Rattle.plans.specs.Packing.{Task, Pins, no_pins, one_pin, packed_module, packed_list}
-use Rattle.plans.specs.PackingAnswers.{ShowsPlacement, ShowsLeast, PinnedAnswered}
+use Rattle.plans.specs.PackingAnswers.{ShowsPlacement, ShowsLeast, ListsLongest, ShowsChip, ShowsPaths, TellsPinned}
 use Rattle.plans.specs.PackingCalls.{Outcome, pack_refusal, pin_refusal, rotation_refusal, no_place, refused_or, packed_outcome, after_pack, after_pack_pinned, after_pack_rotated}
-use Rattle.plans.specs.PackingTheorems.{packed_placement, rotated_task}
-use Rattle.plans.specs.Placements.{LeastPlacement, ByLongestPaths}
+use Rattle.plans.specs.PackingTheorems.{Packable, packed_placement, rotated_task}
+use Rattle.plans.specs.Placements.{LeastPlacement}
 use Rattle.plans.specs.Search.{or_else, refusing}
 use Rattle.plans.specs.Tables.{Feasible}
 use Rattle.plans.specs.declared.measures.Placed.{Placed}
@@ -54,6 +56,7 @@ module _ {L : Type 0} (K : Kind L) where
         → o ≡ packed_outcome K t pins results → o.answer ≡ Ok chip → ShowsLeast K t pins results o.results chip
     outcome_shows pins results o chip room least same answer =
         record {
+          placement = packed_placement K t pins;
           least = least;
           list = rw same (list_shows pins results room);
           chip = cc;
@@ -87,29 +90,36 @@ other_refusals None true c h = let z : ◌≡◌ {A = ℕ} 0 1 = cc in omega ari
 other_refusals None false true h = let z : ◌≡◌ {A = ℕ} 0 1 = cc in omega arith
 other_refusals None false false h = let z : ◌≡◌ {A = ℕ} 0 1 = cc in omega arith
 
--- pack
-module _ {L : Type 0} (K : Kind L) (law : Lawful K) (t : Task L) (feasible : Feasible t.plan) (results : List (Placed L)) where
-  pub pack_answers :
+module _ {L : Type 0} (K : Kind L) (t : Task L) (results : List (Placed L)) where
+  -- a chip is answered where nothing refuses, and then the outcome is a packing
+  packed_told :
       (chip : Chip L) → (after_pack K t results).answer ≡ Ok chip
-      → ShowsLeast K t no_pins results (after_pack K t results).results chip
-      × ByLongestPaths K t (packed_placement K t no_pins)
-  pack_answers chip answer =
-      let q = answered_not_refused K (pack_refusal K t results) results (packed_outcome K t no_pins results) chip answer in
-      let packed = pack_law K law t feasible results q.0 in
-      let room = (not_refused_packable K t results feasible q.0).1 in (
-        outcome_shows K t no_pins results (after_pack K t results) chip room packed.least q.1 answer,
-        packed.longest,
-      )
+      → (pack_refusal K t results ≡ None) × (after_pack K t results ≡ packed_outcome K t no_pins results)
+  packed_told chip = answered_not_refused K (pack_refusal K t results) results (packed_outcome K t no_pins results) chip
 
-  pub rotated_answers :
+  -- so too with a module rotated once more
+  rotated_told :
       (a : ℕ) (chip : Chip L) → (after_pack_rotated K t results a).answer ≡ Ok chip
-      → ShowsLeast K (rotated_task t a) no_pins results (after_pack_rotated K t results a).results chip
+      → (rotation_refusal K t results a ≡ None)
+      × (after_pack_rotated K t results a ≡ packed_outcome K (rotated_task t a) no_pins results)
+  rotated_told a chip =
+      answered_not_refused K (rotation_refusal K t results a) results (packed_outcome K (rotated_task t a) no_pins results) chip
+
+-- pack
+module _ {L : Type 0} (K : Kind L) (sum : SumLaws K) (join : JoinLaws K) (t : Task L) (feasible : Feasible t.plan) (results : List (Placed L)) where
+  pub pack_answers : ShowsChip K t results (after_pack K t results)
+  pack_answers chip answer =
+      let q = packed_told K t results chip answer in
+      let room = (not_refused_packable K t results feasible q.0).1 in
+      outcome_shows K t no_pins results (after_pack K t results) chip room
+      (pack_law K sum join t feasible results q.0).least q.1 answer
+
+  pub rotated_answers : (a : ℕ) → ShowsChip K (rotated_task t a) results (after_pack_rotated K t results a)
   rotated_answers a chip answer =
-      let packed = packed_outcome K (rotated_task t a) no_pins results in
-      let q = answered_not_refused K (rotation_refusal K t results a) results packed chip answer in
+      let q = rotated_told K t results a chip answer in
       let room = (not_refused_packable K t results feasible (not_refused_rotated K t results a q.0).0).1 in
       outcome_shows K (rotated_task t a) no_pins results (after_pack_rotated K t results a) chip room
-      (rotated_law K law t feasible results a q.0).least q.1 answer
+      (rotated_law K sum join t feasible results a q.0).least q.1 answer
 
   -- pack with a module pinned
   module _ (a : ℕ) (across up : L) where
@@ -141,22 +151,51 @@ module _ {L : Type 0} (K : Kind L) (law : Lawful K) (t : Task L) (feasible : Fea
     room : pin_refusal K t results a across up ≡ None → t.plan.size ≤ length results
     room none = (not_refused_packable K t results feasible (not_refused_pinned K t results a across up none).0).1
 
-    pub pinned_answers : PinnedAnswered K t results a across up
+    pub pinned_answers : TellsPinned K t results a across up (after_pack_pinned K t results a across up)
     pinned_answers =
         record {
           answered = λ chip answer.
               let q = chip_told chip answer in
               outcome_shows K t pins results (after_pack_pinned K t results a across up) chip (room q.0)
-              ((pinned_law K law t feasible results a across up q.0).least q.1) q.2 answer;
+              ((pinned_law K sum join t feasible results a across up q.0).least q.1) q.2 answer;
           nowhere = λ answer.
               let q = nowhere_told answer in
-              (q.0, (pinned_law K law t feasible results a across up q.0).none q.1);
+              (q.0, (pinned_law K sum join t feasible results a across up q.0).none q.1);
           always = λ none nothing.
-              let stuck = (pinned_law K law t feasible results a across up none).only nothing in
+              let stuck = (pinned_law K sum join t feasible results a across up none).only nothing in
               ap (λ o. o.answer)
               (ap (λ r. refused_or K r results (cond (no_place K t pins) nowhere (packed_outcome K t pins results))) none
               ∙ ap (λ b. cond b nowhere (packed_outcome K t pins results)) stuck);
           unpinned = λ answer.
               let q = nowhere_told answer in
-              rw q.2 (list_shows K t no_pins results (room q.0));
+              record {
+                placement = packed_placement K t no_pins;
+                least = (pack_law K sum join t feasible results (not_refused_pinned K t results a across up q.0).0).least;
+                list = rw q.2 (list_shows K t no_pins results (room q.0));
+              };
         }
+
+-- longest paths
+module _ {L : Type 0} (K : Kind L) (sum : SumLaws K) (later : LaterLaws K) (t : Task L) (feasible : Feasible t.plan) (results : List (Placed L)) where
+  paths_listed :
+      {E : Type 0} (u : Task L) (o : Outcome L E) → Packable K u → u.plan.size ≤ length results
+      → o ≡ packed_outcome K u no_pins results → ListsLongest K u results o.results
+  paths_listed u o ok room same =
+      record {
+        placement = packed_placement K u no_pins;
+        list = rw same (list_shows K u no_pins results room);
+        longest = packed_longest K sum u ok later;
+      }
+
+  pub pack_paths : ShowsPaths K t results (after_pack K t results)
+  pack_paths chip answer =
+      let q = packed_told K t results chip answer in
+      let ok = not_refused_packable K t results feasible q.0 in
+      paths_listed t (after_pack K t results) ok.0 ok.1 q.1
+
+  pub rotated_paths : (a : ℕ) → ShowsPaths K (rotated_task t a) results (after_pack_rotated K t results a)
+  rotated_paths a chip answer =
+      let q = rotated_told K t results a chip answer in
+      let looked = rotated_task t a in
+      let ok = not_refused_packable K looked results feasible (not_refused_rotated K t results a q.0).0 in
+      paths_listed looked (after_pack_rotated K t results a) ok.0 ok.1 q.1

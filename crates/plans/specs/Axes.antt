@@ -56,9 +56,9 @@ module _ {L : Type 0} (K : Kind L) where
       pub relations : (j i : ℕ) → j < x.size → i < x.size → x.before j i ≡ true → AtMost K (x.step j (e j)) (e i)
       pub pins : (i : ℕ) (v : L) → i < x.size → x.fixed i ≡ Some v → e i ≡ v
 
-    -- no module extends beyond the limit
+    -- no module that stands before another extends beyond the limit
     abbrev pub Inside : (ℕ → L) → Type 0
-    Inside e = (i : ℕ) → i < x.size → x.takes i (e i) ≤ sum_limit
+    Inside e = (j i : ℕ) → j < x.size → i < x.size → x.before j i ≡ true → x.takes j (e j) ≤ sum_limit
 
     -- near edges that keep the relations, each at most that of any others within the limit which do
     pub record LeastAlong (e : ℕ → L) : Type 0 where

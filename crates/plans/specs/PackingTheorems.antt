@@ -1,9 +1,10 @@
--- What packing a floorplan promises, for every kind of length: the least placement, longest paths, "no place".
+-- What packing a floorplan promises, for every kind of length: the least placement, "no place", longest paths.
 use Rattle.std.specs.Prelude.{◌≡◌, ℕ, ◌+◌, ◌*◌, ◌<◌, ◌≤◌, true, false, List, length, Some, None}
-use Rattle.plans.specs.Kinds.{Kind, SumLaws, JoinLaws, Lawful, side_limit, pin_limit, sum_limit}
+use Rattle.plans.specs.Kinds.{Kind, SumLaws, JoinLaws, side_limit, pin_limit, sum_limit}
+use Rattle.plans.specs.LaterOfTwo.{LaterLaws}
 use Rattle.plans.specs.Packing.{Task, Pins, no_pins, one_pin, rotated_once, side_of, axis_of, span_of, packed_edge}
 use Rattle.plans.specs.PackingCalls.{wrong_side, pack_refusal, pin_refusal, rotation_refusal, no_place}
-use Rattle.plans.specs.Placements.{Placement, LeastPlacement, NoPlacement, ByLongestPaths}
+use Rattle.plans.specs.Placements.{Placement, EndsWithin, InsideAlong, LeastPlacement, NoPlacement, ByLongestPaths}
 use Rattle.plans.specs.Sequences.{count_before}
 use Rattle.plans.specs.Tables.{Feasible}
 use Rattle.plans.specs.declared.measures.Placed.{Placed}
@@ -46,11 +47,15 @@ module _ {L : Type 0} (K : Kind L) where
       pub none : no_place K t pins ≡ true → NoPlacement K t pins
       pub only : NoPlacement K t pins → no_place K t pins ≡ true
 
-    -- a packing without pins is the least placement, by longest paths
+    -- a packing without pins is the least placement
     pub record PackedFreely : Type 0 where
       pub within : (g : ℕ) → 0 < g → SumsWithin no_pins g
       pub least : LeastPlacement K t no_pins (packed_placement no_pins)
-      pub longest : ByLongestPaths K t (packed_placement no_pins)
+
+-- along an axis near edges are inside exactly where every module ends within the limit
+pub record InsideByEnds (L : Type 0) : Type 0 where
+  pub enough : (K : Kind L) (t : Task L) (g : ℕ) (e : ℕ → L) → EndsWithin K t g e → InsideAlong K t g e
+  pub needed : (K : Kind L) (t : Task L) (g : ℕ) (e : ℕ → L) → InsideAlong K t g e → EndsWithin K t g e
 
 -- with any pins that are not too far out, by the laws of sums and of the later of two
 abbrev pub PacksPlans : Type 0 → Type 0
@@ -61,17 +66,23 @@ PacksPlans L =
 -- a packing that is not refused
 abbrev pub PackIsLeast : Type 0 → Type 0
 PackIsLeast L =
-    (K : Kind L) → Lawful K → (t : Task L) → Feasible t.plan → (results : List (Placed L))
+    (K : Kind L) → SumLaws K → JoinLaws K → (t : Task L) → Feasible t.plan → (results : List (Placed L))
     → pack_refusal K t results ≡ None → PackedFreely K t
 
 -- a packing with one module pinned that is not refused before
 abbrev pub PinnedIsLeast : Type 0 → Type 0
 PinnedIsLeast L =
-    (K : Kind L) → Lawful K → (t : Task L) → Feasible t.plan → (results : List (Placed L)) (a : ℕ) (across up : L)
+    (K : Kind L) → SumLaws K → JoinLaws K → (t : Task L) → Feasible t.plan → (results : List (Placed L)) (a : ℕ) (across up : L)
     → pin_refusal K t results a across up ≡ None → PackedPlan K t (one_pin a across up)
 
 -- a packing with one module rotated once more that is not refused
 abbrev pub RotatedIsLeast : Type 0 → Type 0
 RotatedIsLeast L =
-    (K : Kind L) → Lawful K → (t : Task L) → Feasible t.plan → (results : List (Placed L)) (a : ℕ)
+    (K : Kind L) → SumLaws K → JoinLaws K → (t : Task L) → Feasible t.plan → (results : List (Placed L)) (a : ℕ)
     → rotation_refusal K t results a ≡ None → PackedFreely K (rotated_task t a)
+
+-- where any two lengths compare, the near edges of a packing without pins are longest paths
+abbrev pub PacksByLongestPaths : Type 0 → Type 0
+PacksByLongestPaths L =
+    (K : Kind L) → SumLaws K → LaterLaws K → (t : Task L) → Packable K t
+    → ByLongestPaths K t (packed_placement K t no_pins)

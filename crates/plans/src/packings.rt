@@ -3,8 +3,8 @@ ghost use Rattle.plans.specs.AxisTheorems.{PacksLeast, PathsCovered, PacksLonges
 ghost use Rattle.plans.specs.CarriedPackings.{CarriedPackings, CountedIsPlain};
 ghost use Rattle.plans.specs.Kinds.{Lawful, plain_kind, counted_kind};
 ghost use Rattle.plans.specs.LaterOfTwo.{LaterIsJoin};
-ghost use Rattle.plans.specs.PackingAnswers.{PackAnswers, PinnedAnswers, RotatedAnswers};
-ghost use Rattle.plans.specs.PackingTheorems.{PacksPlans, PackIsLeast, PinnedIsLeast, RotatedIsLeast};
+ghost use Rattle.plans.specs.PackingAnswers.{PackAnswers, PinnedAnswers, RotatedAnswers, PathAnswers};
+ghost use Rattle.plans.specs.PackingTheorems.{PacksPlans, PackIsLeast, PinnedIsLeast, RotatedIsLeast, PacksByLongestPaths, InsideByEnds};
 
 // Plain and counted lengths have the laws of a kind of length.
 pub fn lawful_kinds()
@@ -28,13 +28,16 @@ pub fn packing_along_an_axis<L>()
 
 // Packing a feasible floorplan gives the least placement that keeps its relations: no two modules overlap, and
 // each near and far edge, width, height and area is at most any other placement's. With a module pinned it does
-// so too, or else there is no placement; with one rotated once more it does. Without a pin near edges are
-// longest paths, and no sum goes beyond the limit.
+// so too, or else there is no placement; with one rotated once more it does. No sum goes beyond the limit. Without
+// a pin, near edges are longest paths where any two lengths compare. A placement is within the limit exactly where
+// every module ends within it.
 pub fn packing_a_floorplan<L>()
     ensures plans { PacksPlans L }
     ensures pack { PackIsLeast L }
     ensures pinned { PinnedIsLeast L }
     ensures rotated { RotatedIsLeast L }
+    ensures longest { PacksByLongestPaths L }
+    ensures inside { InsideByEnds L }
 {}
 
 // A map between two kinds of length that keeps zero, sums, the later of two and extents carries packings along.
@@ -47,10 +50,12 @@ pub fn counted_is_plain()
     ensures { CountedIsPlain }
 {}
 
-// A packing call that answers a chip shows, with its list, the least placement; with a module pinned, "no place"
-// is answered exactly where no other refusal applies and there is no placement.
+// A packing call that answers a chip shows, with its list, the least placement, and without a pin longest paths
+// where any two lengths compare; with a module pinned, "no place" is answered exactly where no other refusal applies
+// and there is no placement.
 pub fn packing_answers<L>()
     ensures pack { PackAnswers L }
     ensures pinned { PinnedAnswers L }
     ensures rotated { RotatedAnswers L }
+    ensures longest { PathAnswers L }
 {}

@@ -6,7 +6,7 @@ use Rattle.listing.specs.CommandLines.{state_after}
 use Rattle.listing.specs.PackLines.{unplaced}
 use Rattle.listing.specs.PrintedPackings.{PrintedPackings}
 use Rattle.plans.proofs.CarriedPackings.{packs_carried, long_carries}
-use Rattle.plans.proofs.KindLaws.{counted_lawful}
+use Rattle.plans.proofs.KindLaws.{join_laws, counted_lawful}
 use Rattle.plans.proofs.ModelLaw.{step_keeps}
 use Rattle.plans.proofs.PackingAnswers.{pack_answers}
 use Rattle.plans.specs.CarriedPackings.{carry_task, carry_placed}
@@ -30,7 +30,8 @@ packings =
     record {
       feasible = stays_feasible;
       least = λ s sides chip f e.
-          (pack_answers counted_kind counted_lawful (task_at s sides) f.current (replicate 64 unplaced) chip e).0;
+          pack_answers counted_kind counted_lawful.sum (join_laws counted_kind counted_lawful) (task_at s sides) f.current
+          (replicate 64 unplaced) chip e;
       plain = λ s sides.
           sym ((packs_carried counted_kind plain_kind (λ a. a.long) long_carries).pack (task_at s sides) (replicate 64 unplaced))
           ∙ ap (after_pack plain_kind (carry_task (λ a. a.long) (task_at s sides)))

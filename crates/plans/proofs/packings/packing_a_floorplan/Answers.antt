@@ -1,5 +1,6 @@
--- The packing is the least placement, with any pins and for each of the three calls.
-use Rattle.plans.proofs.LeastPlacements.{packed_plan}
+-- The packing is the least placement, with any pins and for each of the three calls, and by longest paths.
+use Rattle.plans.proofs.FlatAxes.{inside_by_ends}
+use Rattle.plans.proofs.LeastPlacements.{packed_plan, packed_longest}
 use Rattle.plans.proofs.PackingLaws.{pack_law, pinned_law, rotated_law}
 use Rattle.plans.proofs.packings.packing_a_floorplan.Goals as goal
 
@@ -9,4 +10,6 @@ returns g c = record {
   pack = pack_law;
   pinned = pinned_law;
   rotated = rotated_law;
+  longest = λ K sum later t ok. packed_longest K sum t ok later;
+  inside = inside_by_ends;
 }

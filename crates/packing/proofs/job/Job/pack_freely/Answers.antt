@@ -1,6 +1,6 @@
 -- A packing with no pin.
 use Rattle.std.proofs.Common.{Ok}
-use Rattle.packing.proofs.Outcomes.{ready_free, pack_done, pack_shows}
+use Rattle.packing.proofs.Outcomes.{ready_free, pack_done, pack_shows, pack_shows_paths}
 use Rattle.packing.specs.Tasks.{task_of}
 use Rattle.packing.proofs.job.Job.pack_freely.Goals as goal
 
@@ -21,4 +21,8 @@ returns g c =
     let gives =
     pack_done K t before feasible c.requires c.modules.result chip after c.modules.ensures
     c.place_all.ensures.list c.chip_around.ensures in
-    (gives, pack_shows K t before feasible g.met.L.Length.lawful (Ok chip) after gives)
+    record {
+      outcome = gives;
+      least = pack_shows K t before feasible g.met.L.Length.lawful (Ok chip) after gives;
+      longest = pack_shows_paths K t before feasible g.met.L.Length.lawful (Ok chip) after gives;
+    }
