@@ -3,7 +3,7 @@ use Rattle.std.specs.Prelude.{◌≡◌, ℕ, ◌<◌, ◌≤◌, ◌≢◌, ◌
 use Rattle.plans.specs.Changes.{change_refusal}
 use Rattle.plans.specs.FirstRefusals.{FirstRefusal}
 use Rattle.plans.specs.Kinds.{Kind, side_limit, pin_limit}
-use Rattle.plans.specs.Numbers.{number_of_change, told_by_change, number_of_pack, told_by_pack, number_of_pinned, told_by_pinned, number_of_rotation, told_by_rotation}
+use Rattle.plans.specs.Numbers.{number_of_change, told_by_change, told_by_pack, told_by_pinned, told_by_rotation}
 use Rattle.plans.specs.Packing.{Task}
 use Rattle.plans.specs.PackingCalls.{pack_refusal, pin_refusal, rotation_refusal}
 use Rattle.plans.specs.Tables.{Table, Floorplan, table_in}
@@ -53,6 +53,24 @@ abbrev pub ChangeLaw : Type 0
 ChangeLaw =
     (p : Floorplan) (c : Change) → FirstRefusal number_of_change told_by_change (ChangeApplies p c) (change_refusal p c)
 
+-- the order in which the refusals of a packing come, apart from their numbers
+abbrev pub rank_of_pack : PackRefusal → ℕ
+rank_of_pack WrongSides = 0
+rank_of_pack ShortResults = 1
+rank_of_pack (WrongSide i) = 2
+
+-- with a module pinned
+abbrev pub rank_of_pinned : PinnedRefusal → ℕ
+rank_of_pinned (pinned.Packing e) = rank_of_pack e
+rank_of_pinned pinned.NoModule = 3
+rank_of_pinned pinned.FarPin = 4
+rank_of_pinned pinned.NoPlace = 5
+
+-- with a module rotated once more
+abbrev pub rank_of_rotation : RotationRefusal → ℕ
+rank_of_rotation (rotation.Packing e) = rank_of_pack e
+rank_of_rotation rotation.NoModule = 3
+
 module _ {L : Type 0} (K : Kind L) where
   -- a length that a side may have
   abbrev pub Possible : L → Type 0
@@ -82,10 +100,10 @@ module _ {L : Type 0} (K : Kind L) where
 pub record PackLaw (L : Type 0) : Type 0 where
   pub pack :
       (K : Kind L) (t : Task L) (results : List (Placed L))
-      → FirstRefusal number_of_pack told_by_pack (PackApplies K t results) (pack_refusal K t results)
+      → FirstRefusal rank_of_pack told_by_pack (PackApplies K t results) (pack_refusal K t results)
   pub pinned :
       (K : Kind L) (t : Task L) (results : List (Placed L)) (a : ℕ) (across up : L)
-      → FirstRefusal number_of_pinned told_by_pinned (PinnedApplies K t results a across up) (pin_refusal K t results a across up)
+      → FirstRefusal rank_of_pinned told_by_pinned (PinnedApplies K t results a across up) (pin_refusal K t results a across up)
   pub rotated :
       (K : Kind L) (t : Task L) (results : List (Placed L)) (a : ℕ)
-      → FirstRefusal number_of_rotation told_by_rotation (RotationApplies K t results a) (rotation_refusal K t results a)
+      → FirstRefusal rank_of_rotation told_by_rotation (RotationApplies K t results a) (rotation_refusal K t results a)
