@@ -4,6 +4,7 @@ use Rattle.listing.specs.Line.{word_line, chip_line, module_line, edge_line}
 use Rattle.plans.specs.Kinds.{Count, counted_kind}
 use Rattle.plans.specs.Model.{State, task_at}
 use Rattle.plans.specs.Numbers.{number_of_pack}
+use Rattle.plans.specs.Packing.{at_origin}
 use Rattle.plans.specs.PackingCalls.{Outcome, after_pack}
 use Rattle.plans.specs.declared.measures.Chip.{Chip}
 use Rattle.plans.specs.declared.measures.Placed.{Placed}
@@ -13,9 +14,7 @@ use Rattle.std.specs.List.{range_with_len, flat_map}
 
 -- A module at the origin: what stands in a result list before a packing.
 abbrev pub unplaced : Placed Count
-unplaced =
-    let nought : Count = record { long = 0; borders = 0 } in
-    record { left = nought; bottom = nought; right = nought; top = nought }
+unplaced = at_origin counted_kind
 
 -- The line of one module by its record.
 abbrev pub record_line : ℕ → Placed Count → List ℕ

@@ -3,10 +3,12 @@ use Rattle.std.proofs.Common.{◌≡◌, ℕ, suc, ◌+◌, ◌<◌, Bool, cond,
 use Rattle.std.proofs.lemmas.List.{take_more, get_or_read}
 use Rattle.plans.specs.Kinds.{Kind}
 use Rattle.plans.specs.LaterOfTwo.{latest_onto}
+use Rattle.plans.specs.Packing.{at_origin}
 use Rattle.plans.specs.Tables.{Floorplan, table_in}
 use Rattle.plans.specs.declared.measures.Placed.{Placed}
+use Rattle.packing.specs.Corners.{next_after}
 use Rattle.packing.specs.declared.pin.Corner.{Corner}
-use Rattle.packing.specs.Steps.{blank, corner_past, free_corner, at_place}
+use Rattle.packing.specs.Steps.{corner_past, free_corner, at_place}
 
 module _ {L : Type 0} (K : Kind L) (chosen : ℕ → Bool) where
   -- one entry more at the end
@@ -43,11 +45,11 @@ module _ {L : Type 0} (K : Kind L) (p : Floorplan) (i g : ℕ) (f : ℕ → L) w
 free_more :
     {L : Type 0} (K : Kind L) (p : Floorplan) (results : List (Placed L)) (k i : ℕ) → k < length p.sequence
     → free_corner K p results (k + 1) i
-    ≡ corner_past K (free_corner K p results k i) (table_in p (at_place p k) i) (get_or results (at_place p k) (blank K))
+    ≡ corner_past K (free_corner K p results k i) (table_in p (at_place p k) i) (get_or results (at_place p k) (at_origin K))
 free_more K p results k i h x =
     record {
-      across = along_more K p i 1 (λ j. (get_or results j (blank K)).right) k h x;
-      up = along_more K p i 2 (λ j. (get_or results j (blank K)).top) k h x;
+      across = along_more K p i 1 (λ j. (next_after (get_or results j (at_origin K))).across) k h x;
+      up = along_more K p i 2 (λ j. (next_after (get_or results j (at_origin K))).up) k h x;
     }
 
 -- the corner moved past the module that was read there
@@ -60,6 +62,6 @@ pub free_moved :
 free_moved K p results k i j code placed sofar next h below stands told is before moved =
     let back = sym stands in
     let read =
-    get_or_read results j placed below is (blank K) ∙ ap (λ l. get_or results l (blank K)) back in
+    get_or_read results j placed below is (at_origin K) ∙ ap (λ l. get_or results l (at_origin K)) back in
     let by = told ∙ ap (λ l. table_in p l i) back in
     moved ∙ (λ x. corner_past K (before x) (by x) (read x)) ∙ sym (free_more K p results k i h)

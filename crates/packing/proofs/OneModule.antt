@@ -2,7 +2,6 @@
 use Rattle.std.proofs.Common.{◌≡◌, ℕ, ◌+◌, ◌<◌, ◌≤◌, Bool, true, false, not, ◌&&◌, ◌||◌, eqb, List, get_or, take, set, Some, None, Option, unwrap_or, sym, refl, ap, ◌∙◌, arith}
 use Rattle.std.proofs.lemmas.List.{get_or-take, length-take}
 use Rattle.std.proofs.lemmas.Bool.Decides.{nat_tests}
-use Rattle.lengths.specs.Sums.{SumWithin}
 use Rattle.plans.proofs.FlatAxes.{sums_within}
 use Rattle.plans.proofs.KindLaws.{join_laws}
 use Rattle.plans.proofs.PublishedLoad.{fits_names}
@@ -10,13 +9,13 @@ use Rattle.plans.proofs.SequenceWalk.{free_along, near_along}
 use Rattle.plans.specs.Axes.{free_edge, pushed}
 use Rattle.plans.specs.Kinds.{Kind, Lawful, JoinLaws, sum_limit}
 use Rattle.plans.specs.LaterOfTwo.{latest_onto}
-use Rattle.plans.specs.Packing.{Task, Pins, axis_of, far_of, packed_edge, packed_module, side_of}
+use Rattle.plans.specs.Packing.{Task, Pins, at_origin, side_of, next_of, axis_of, packed_edge, packed_module}
 use Rattle.plans.specs.Tables.{Floorplan, Feasible, table_in, module_at}
 use Rattle.plans.specs.declared.measures.Placed.{Placed}
 use Rattle.plans.specs.declared.measures.Sides.{Sides}
 use Rattle.packing.proofs.Corners.{onto_same}
-use Rattle.packing.specs.Steps.{Ready, RecordAt, FilledTo, at_place, blank, free_corner, near_corner, pushed_at, PlacesOne}
-use Rattle.packing.specs.Corners.{corner_at_most}
+use Rattle.packing.specs.Steps.{Ready, FilledTo, record_at, at_place, free_corner, near_corner, pushed_at, PlacesOne}
+use Rattle.packing.specs.Corners.{next_after, corner_at_most}
 use Rattle.packing.specs.declared.pin.Corner.{Corner}
 
 -- the module that a representation tells at a place stands there
@@ -45,12 +44,19 @@ module _ {L : Type 0} (K : Kind L) (law : Lawful K) (t : Task L) (pins : Pins L)
     inside : i < t.plan.size
     inside = rw stands at (ready.packable.feasible.fits.modules k h)
 
-    -- along the axis of a graph, whose far edges a record tells
-    module _ (g : ℕ) (edge : 0 < g) (far : Placed L → L) (told : (j : ℕ) → far (packed_module K t pins j) ≡ far_of K t g (packed_edge K t pins g) j) where
+    -- along the axis of a graph the near edge and the side stay within the limit
+    ends_packed :
+        (g : ℕ) → 0 < g → (near side : L) → near ≡ packed_edge K t pins g i → side ≡ side_of K t g i
+        → K.reach near + K.reach side ≤ sum_limit
+    ends_packed g edge near side a b =
+        rw (a, b) ((sums_within K law.sum join t ready.packable pins ready.close g edge).sums i inside)
+
+    -- and where a record tells where the next module may begin
+    module _ (g : ℕ) (edge : 0 < g) (next : Placed L → L) (told : (j : ℕ) → next (packed_module K t pins j) ≡ next_of K t g j (packed_edge K t pins g j)) where
       -- the free edge by the records in the list
       abbrev free : L
       free =
-          latest_onto K (λ j. eqb (table_in t.plan j i) g) (λ j. far (get_or results j (blank K))) K.origin
+          latest_onto K (λ j. eqb (table_in t.plan j i) g) (λ j. next (get_or results j (at_origin K))) K.origin
           (take k t.plan.sequence)
 
       -- is that of the packing
@@ -58,11 +64,11 @@ module _ {L : Type 0} (K : Kind L) (law : Lawful K) (t : Task L) (pins : Pins L)
       free_packed =
           let s = t.plan.sequence in
           let long = length-take k s in
-          onto_same K (λ j. eqb (table_in t.plan j i) g) (λ j. far (get_or results j (blank K)))
-          (far_of K t g (packed_edge K t pins g)) K.origin (take k s)
+          onto_same K (λ j. eqb (table_in t.plan j i) g) (λ j. next (get_or results j (at_origin K)))
+          (λ j. next_of K t g j (packed_edge K t pins g j)) K.origin (take k s)
           (λ l b.
           let less : l < k = omega (arith, long) in
-          rw (get_or-take k s l 0 less) (ap far (filled l (blank K) less) ∙ told (at_place t.plan l)))
+          rw (get_or-take k s l 0 less) (ap next (filled l (at_origin K) less) ∙ told (at_place t.plan l)))
           ∙ sym (free_along K law.sum join t ready.packable pins g edge module_places (packed_edge K t pins g) k i h stands)
 
       -- so is the near edge
@@ -81,48 +87,37 @@ module _ {L : Type 0} (K : Kind L) (law : Lawful K) (t : Task L) (pins : Pins L)
       fits_packed : K.at_most free (unwrap_or (pins g i) free) ≡ not (pushed K (axis_of K t pins g) i)
       fits_packed = fits_by (pins g i) refl
 
-      -- a near edge and the side have their sum
-      sum_packed :
-          (near side far' : L) → near ≡ packed_edge K t pins g i → side ≡ side_of K t g i → SumWithin K near side far'
-          → far' ≡ far_of K t g (packed_edge K t pins g) i
-      sum_packed near side far' a b sum =
-          let small : K.reach near + K.reach side ≤ sum_limit =
-          rw (a, b) ((sums_within K law.sum join t ready.packable pins ready.close g edge).sums i inside) in
-          sum small ∙ (λ x. K.plus (a x) (b x))
-
     module _ (free near : Corner L) (freed : free ≡ free_corner K t.plan results k i) (begins : near ≡ near_corner K pins i free) where
       across_packed : near.across ≡ packed_edge K t pins 1 i
       across_packed =
           ap (λ (e : Corner L). e.across) (begins ∙ ap (near_corner K pins i) freed)
-          ∙ near_packed 1 (omega arith) (λ (r : Placed L). r.right) (λ j. refl)
+          ∙ near_packed 1 (omega arith) (λ r. (next_after r).across) (λ j. refl)
 
       up_packed : near.up ≡ packed_edge K t pins 2 i
       up_packed =
           ap (λ (e : Corner L). e.up) (begins ∙ ap (near_corner K pins i) freed)
-          ∙ near_packed 2 (omega arith) (λ (r : Placed L). r.top) (λ j. refl)
+          ∙ near_packed 2 (omega arith) (λ r. (next_after r).up) (λ j. refl)
 
-      -- the record that is written
-      pub record_packed :
-          (side : Sides L) (placed : Placed L) → side ≡ record { width = side_of K t 1 i; height = side_of K t 2 i }
-          → RecordAt K near side placed → placed ≡ packed_module K t pins i
-      record_packed side placed lies told =
-          let far =
-          sum_packed 1 (omega arith) (λ (r : Placed L). r.right) (λ j. refl) near.across side.width
-          placed.right across_packed (ap (λ (s : Sides L). s.width) lies) told.right in
-          let high =
-          sum_packed 2 (omega arith) (λ (r : Placed L). r.top) (λ j. refl) near.up side.height placed.top
-          up_packed (ap (λ (s : Sides L). s.height) lies) told.top in
-          let left = told.left ∙ across_packed in
-          let bottom = told.bottom ∙ up_packed in
-          λ x. record { left = left x; bottom = bottom x; right = far x; top = high x }
+      module _ (side : Sides L) (lies : side ≡ record { width = side_of K t 1 i; height = side_of K t 2 i }) where
+        pub across_ends : K.reach near.across + K.reach side.width ≤ sum_limit
+        across_ends =
+            ends_packed 1 (omega arith) near.across side.width across_packed (ap (λ (s : Sides L). s.width) lies)
+
+        pub up_ends : K.reach near.up + K.reach side.height ≤ sum_limit
+        up_ends = ends_packed 2 (omega arith) near.up side.height up_packed (ap (λ (s : Sides L). s.height) lies)
+
+        -- the record that is written
+        pub record_packed : (placed : Placed L) → placed ≡ record_at K near side → placed ≡ packed_module K t pins i
+        record_packed placed told =
+            told ∙ (λ x. record_at K (record { across = across_packed x; up = up_packed x }) (lies x))
 
       -- whether the module fits
       pub corner_fits : corner_at_most K free near ≡ not (pushed_at K t pins i)
       corner_fits =
           let a : K.at_most free.across near.across ≡ not (pushed K (axis_of K t pins 1) i) =
-          rw (begins, freed) (fits_packed 1 (omega arith) (λ (r : Placed L). r.right) (λ j. refl)) in
+          rw (begins, freed) (fits_packed 1 (omega arith) (λ r. (next_after r).across) (λ j. refl)) in
           let b : K.at_most free.up near.up ≡ not (pushed K (axis_of K t pins 2) i) =
-          rw (begins, freed) (fits_packed 2 (omega arith) (λ (r : Placed L). r.top) (λ j. refl)) in
+          rw (begins, freed) (fits_packed 2 (omega arith) (λ r. (next_after r).up) (λ j. refl)) in
           rw (a, b) (neither (pushed K (axis_of K t pins 1) i) (pushed K (axis_of K t pins 2) i))
         where
           neither : (p q : Bool) → (not p && not q) ≡ not (p || q)

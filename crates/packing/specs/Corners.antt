@@ -5,6 +5,10 @@ use Rattle.plans.specs.declared.measures.Placed.{Placed}
 use Rattle.plans.specs.declared.measures.Chip.{Chip}
 use Rattle.packing.specs.declared.pin.Corner.{Corner}
 
+-- where the next module along each axis may begin after a placed one: at its far edge
+abbrev pub next_after : {L : Type 0} → Placed L → Corner L
+next_after placed = record { across = placed.right; up = placed.top }
+
 module _ {L : Type 0} (K : Kind L) where
   -- where both axes begin
   abbrev pub first_corner : Corner L
@@ -34,7 +38,3 @@ module _ {L : Type 0} (K : Kind L) where
   -- the chip around all records of a list
   abbrev pub chip_around : List (Placed L) → Chip L
   chip_around records = chip_to (far_corner records)
-
-  -- a record with all its edges where both axes begin
-  abbrev pub unplaced : Placed L
-  unplaced = record { left = K.origin; bottom = K.origin; right = K.origin; top = K.origin }

@@ -1,16 +1,16 @@
 -- How the packer goes along the packing sequence: free corners, near corners, and how far the list is filled.
 use Rattle.std.specs.Prelude.{◌≡◌, ℕ, ◌<◌, ◌≤◌, Bool, cond, not, ◌||◌, ◌≢◌, List, length, get_or, take, ◌==◌, nat_eq, slice_index, slice_index_or, slice_set}
 use Rattle.std.specs.Option.{unwrap_or}
-use Rattle.lengths.specs.Sums.{SumWithin}
 use Rattle.plans.specs.Axes.{pushed}
 use Rattle.plans.specs.Kinds.{Kind}
 use Rattle.plans.specs.LaterOfTwo.{latest_onto}
-use Rattle.plans.specs.Packing.{Task, Pins, axis_of, packed_module, packed_list}
+use Rattle.plans.specs.Packing.{Task, Pins, at_origin, axis_of, packed_module, packed_list}
 use Rattle.plans.specs.PackingCalls.{no_place}
 use Rattle.plans.specs.PackingTheorems.{Packable, NearPins}
 use Rattle.plans.specs.Tables.{Floorplan, table_in}
 use Rattle.plans.specs.declared.measures.Placed.{Placed}
 use Rattle.plans.specs.declared.measures.Sides.{Sides}
+use Rattle.packing.specs.Corners.{next_after}
 use Rattle.packing.specs.declared.pin.Corner.{Corner}
 
 -- the module at place k of the sequence
@@ -18,25 +18,21 @@ abbrev pub at_place : Floorplan → ℕ → ℕ
 at_place p k = slice_index p.sequence k
 
 module _ {L : Type 0} (K : Kind L) where
-  -- a record of zeros, for what stands outside a list
-  abbrev pub blank : Placed L
-  blank = record { left = K.origin; bottom = K.origin; right = K.origin; top = K.origin }
-
   -- a corner moved past a placed module that has an edge of this code to it
   abbrev pub corner_past : Corner L → ℕ → Placed L → Corner L
   corner_past corner code placed =
       record {
-        across = cond (code == 1) (K.later corner.across placed.right) corner.across;
-        up = cond (code == 2) (K.later corner.up placed.top) corner.up;
+        across = cond (code == 1) (K.later corner.across (next_after placed).across) corner.across;
+        up = cond (code == 2) (K.later corner.up (next_after placed).up) corner.up;
       }
 
-  -- where all modules at the places before k that stand before i have ended, by the records of a list
+  -- where module i is free to begin after those at the places before k that stand before it, by the records of a list
   abbrev pub free_corner : Floorplan → List (Placed L) → ℕ → ℕ → Corner L
   free_corner p results k i =
       record {
         across =
-            latest_onto K (λ j. nat_eq (table_in p j i) 1) (λ j. (get_or results j blank).right) K.origin (take k p.sequence);
-        up = latest_onto K (λ j. nat_eq (table_in p j i) 2) (λ j. (get_or results j blank).top) K.origin (take k p.sequence);
+            latest_onto K (λ j. nat_eq (table_in p j i) 1) (λ j. (next_after (get_or results j (at_origin K))).across) K.origin (take k p.sequence);
+        up = latest_onto K (λ j. nat_eq (table_in p j i) 2) (λ j. (next_after (get_or results j (at_origin K))).up) K.origin (take k p.sequence);
       }
 
   -- where a module begins: at its pin, or else where it is free to
@@ -44,12 +40,15 @@ module _ {L : Type 0} (K : Kind L) where
   near_corner pins i free =
       record { across = unwrap_or (pins 1 i) free.across; up = unwrap_or (pins 2 i) free.up }
 
-  -- the record of a module that begins at a corner, where the sums stay within the limit
-  pub record RecordAt (near : Corner L) (side : Sides L) (placed : Placed L) : Type 0 where
-    pub left : placed.left ≡ near.across
-    pub bottom : placed.bottom ≡ near.up
-    pub right : SumWithin K near.across side.width placed.right
-    pub top : SumWithin K near.up side.height placed.top
+  -- the record of a module that begins at a corner, with its sides
+  abbrev pub record_at : Corner L → Sides L → Placed L
+  record_at near side =
+      record {
+        left = near.across;
+        bottom = near.up;
+        right = K.plus near.across side.width;
+        top = K.plus near.up side.height;
+      }
 
   module _ (t : Task L) (pins : Pins L) where
     -- what can be packed into a list of this length

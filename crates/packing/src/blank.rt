@@ -1,13 +1,13 @@
 // What stands in a result list before a packing.
 ghost use Rattle.std.specs.Prelude.{◌≡◌};
-ghost use Rattle.packing.specs.Corners.{unplaced};
+ghost use Rattle.plans.specs.Packing.{at_origin};
 
 use lengths::Length;
 use plans::Placed;
 
 // A record with all its edges at the kind's zero.
 pub fn unplaced<L: Length>() -> Placed<L>
-    ensures { result ≡ unplaced L.Length.kind }
+    ensures { result ≡ at_origin L.Length.kind }
 {
     Placed {
         left: L::ZERO,

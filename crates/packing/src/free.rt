@@ -1,6 +1,7 @@
 // Where a module is free to begin: after all modules that stand before it.
 ghost use Rattle.std.specs.Prelude.{◌≡◌, ◌≤◌, length};
 ghost use Rattle.plans.specs.Directions.{code_told};
+ghost use Rattle.packing.specs.Corners.{next_after};
 ghost use Rattle.packing.specs.Steps.{corner_past, free_corner};
 ghost use Rattle.packing.specs.Tasks.{task_of};
 
@@ -11,17 +12,25 @@ use plans::{Direction, Placed};
 use representations::Representation;
 
 impl<L: Length> Corner<L> {
+    // Where the next module along each axis may begin after a placed one.
+    fn next_after(placed: &Placed<L>) -> Corner<L>
+        ensures { result ≡ next_after placed.now }
+    {
+        Corner::far_of(placed)
+    }
+
     // The corner moved past a placed module, if that has an edge to the module that is to begin here.
     fn moved_past(self, edge: Option<Direction>, placed: Placed<L>) -> Corner<L>
         ensures { result ≡ corner_past L.Length.kind self (code_told edge) placed }
     {
+        let next = Corner::next_after(&placed);
         match edge {
             Some(Direction::Right) => Corner {
-                across: self.across.join(placed.right),
+                across: self.across.join(next.across),
                 ..self
             },
             Some(Direction::Above) => Corner {
-                up: self.up.join(placed.top),
+                up: self.up.join(next.up),
                 ..self
             },
             None => self,

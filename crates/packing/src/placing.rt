@@ -1,7 +1,8 @@
 // Placing modules one after another, along the packing sequence.
-ghost use Rattle.std.specs.Prelude.{◌≡◌, ◌<◌, length};
+ghost use Rattle.std.specs.Prelude.{◌≡◌, ◌+◌, ◌<◌, ◌≤◌, length};
+ghost use Rattle.plans.specs.Kinds.{sum_limit};
 ghost use Rattle.plans.specs.Packing.{side_of};
-ghost use Rattle.packing.specs.Steps.{Ready, NextPlace, PlacesOne, PlacesAll, RecordAt, near_corner};
+ghost use Rattle.packing.specs.Steps.{Ready, NextPlace, PlacesOne, PlacesAll, record_at, near_corner};
 ghost use Rattle.packing.specs.Tasks.{task_of, pins_of};
 
 use crate::job::Job;
@@ -20,9 +21,11 @@ fn near_corner<L: Length>(pin: Option<Pin<L>>, i: usize, free: Corner<L>) -> Cor
     }
 }
 
-// The record of a module that begins at a corner, with its sides.
+// The record of a module that begins at a corner, with its sides; the two together stay within the limit.
 fn record_at<L: Length>(near: Corner<L>, side: Sides<L>) -> Placed<L>
-    ensures { RecordAt L.Length.kind near side result }
+    requires across { L.Length.kind.reach near.across + L.Length.kind.reach side.width ≤ sum_limit }
+    requires up { L.Length.kind.reach near.up + L.Length.kind.reach side.height ≤ sum_limit }
+    ensures { result ≡ record_at L.Length.kind near side }
 {
     Placed {
         left: near.across,

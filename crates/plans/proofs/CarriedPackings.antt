@@ -9,7 +9,7 @@ use Rattle.std.proofs.lemmas.Bool.Decides.{nat_tests}
 use Rattle.plans.specs.Axes.{Axis, latest, free_edge, near_within, near_edge}
 use Rattle.plans.specs.CarriedPackings.{Carries, PacksCarried, carry_sides, carry_task, carry_pins, carry_placed, carry_chip, carry_outcome}
 use Rattle.plans.specs.Kinds.{Kind, Count, count_at_most, plain_kind, counted_kind, possible_side}
-use Rattle.plans.specs.Packing.{Task, Pins, no_pins, side_along, side_of, axis_of, far_of, span_of, packed_edge, packed_module, packed_chip, packed_list}
+use Rattle.plans.specs.Packing.{Task, Pins, no_sides, no_pins, side_along, side_of, next_of, axis_of, far_of, span_of, packed_edge, packed_module, packed_chip, packed_list}
 use Rattle.plans.specs.PackingCalls.{wrong_side, pack_refusal, refused_or, packed_outcome, rotation_refusal}
 use Rattle.plans.specs.PackingTheorems.{rotated_task}
 use Rattle.plans.specs.Search.{first_below, or_else, refusing}
@@ -54,21 +54,24 @@ module _ {L M : Type 0} (K : Kind L) (N : Kind M) (h : L → M) (law : Carries K
   -- an entry of carried sides, zero beyond the end
   carried_entry :
       (sides : List (Sides L)) (i : ℕ)
-      → get_or (map (carry_sides h) sides) i (record { width = N.origin; height = N.origin })
-      ≡ carry_sides h (get_or sides i (record { width = K.origin; height = K.origin }))
+      → get_or (map (carry_sides h) sides) i (no_sides N)
+      ≡ carry_sides h (get_or sides i (no_sides K))
   carried_entry sides i =
-      rw (← law.zero) (carried_at (carry_sides h) sides i (record { width = K.origin; height = K.origin }))
+      rw (← law.zero) (carried_at (carry_sides h) sides i (no_sides K))
 
   module _ (t : Task L) where
     -- the sides of a carried task
     carried_sides : (g i : ℕ) → side_of N (carry_task h t) g i ≡ h (side_of K t g i)
     carried_sides g i =
         rw (carried_entry t.sides i)
-        (carried_side h g (t.rotated i) (get_or t.sides i (record { width = K.origin; height = K.origin })))
+        (carried_side h g (t.rotated i) (get_or t.sides i (no_sides K)))
 
     carried_far : (g : ℕ) (e : ℕ → L) (e' : ℕ → M) (i : ℕ) → e' i ≡ h (e i) → far_of N (carry_task h t) g e' i ≡ h (far_of K t g e i)
     carried_far g e e' i same =
         ap₂ (λ a b. N.plus a b) same (carried_sides g i) ∙ sym (law.sums (e i) (side_of K t g i))
+
+    carried_next : (g i : ℕ) (e : L) (e' : M) → e' ≡ h e → next_of N (carry_task h t) g i e' ≡ h (next_of K t g i e)
+    carried_next g i e e' same = carried_far g (λ j. e) (λ j. e') i same
 
     carried_span :
         (g : ℕ) (e : ℕ → L) (e' : ℕ → M) → ((i : ℕ) → e' i ≡ h (e i)) → span_of N (carry_task h t) g e' ≡ h (span_of K t g e)
@@ -90,8 +93,8 @@ module _ {L M : Type 0} (K : Kind L) (N : Kind M) (h : L → M) (law : Carries K
           let near = near_within K (here g) n in
           let carried = near_within N (there g) n in
           let free : free_edge N (there g) carried i ≡ h (free_edge K (here g) near i) =
-          carried_latest (λ j. (here g).before j i) (far_of K t g near) (far_of N (carry_task h t) g carried)
-          (λ j. carried_far g near carried j (carried_rounds g n j)) t.plan.size in
+          carried_latest (λ j. (here g).before j i) (λ j. next_of K t g j (near j)) (λ j. next_of N (carry_task h t) g j (carried j))
+          (λ j. carried_next g j (near j) (carried j) (carried_rounds g n j)) t.plan.size in
           rw free (carried_value h (pins g i) (free_edge K (here g) near i))
 
       carried_near : (g i : ℕ) → packed_edge N (carry_task h t) (carry_pins h pins) g i ≡ h (packed_edge K t pins g i)
@@ -133,8 +136,7 @@ module _ {L M : Type 0} (K : Kind L) (N : Kind M) (h : L → M) (law : Carries K
 
     carried_wrong : (i : ℕ) → wrong_side N (map (carry_sides h) t.sides) i ≡ wrong_side K t.sides i
     carried_wrong i =
-        let nothing : Sides L = record { width = K.origin; height = K.origin } in
-        let s = get_or t.sides i nothing in
+        let s = get_or t.sides i (no_sides K) in
         ap (λ q. not (possible_side N q.width && possible_side N q.height))
         (carried_entry t.sides i)
         ∙ ap₂ (λ a b. not (a && b)) (carried_possible s.width) (carried_possible s.height)

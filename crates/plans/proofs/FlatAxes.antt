@@ -6,7 +6,7 @@ use Rattle.plans.proofs.Latest.{latest_extent}
 use Rattle.plans.specs.Axes.{free_edge, near_within, near_edge}
 use Rattle.plans.specs.AxisTheorems.{Orderly}
 use Rattle.plans.specs.Kinds.{Kind, SumLaws, JoinLaws, possible_side, side_limit, pin_limit, sum_limit}
-use Rattle.plans.specs.Packing.{Task, Pins, side_along, side_of, axis_of, far_of}
+use Rattle.plans.specs.Packing.{Task, Pins, no_sides, side_along, side_of, next_of, axis_of, far_of}
 use Rattle.plans.specs.PackingTheorems.{Packable, NearPins, SumsWithin, InsideByEnds}
 use Rattle.plans.specs.Placements.{EndsWithin, InsideAlong}
 use Rattle.plans.specs.Sequences.{count_before}
@@ -34,7 +34,7 @@ module _ {L : Type 0} (K : Kind L) (t : Task L) (ok : Packable K t) where
   -- each side is possible
   pub side_possible : (g i : ℕ) → i < t.plan.size → possible_side K (side_of K t g i) ≡ true
   side_possible g i h =
-      let s = get_or t.sides i (record { width = K.origin; height = K.origin }) in
+      let s = get_or t.sides i (no_sides K) in
       let w = possible_side K s.width in
       let u = possible_side K s.height in
       let both = and_parts w u (not-false (w && u) (ok.possible i h)) in
@@ -92,7 +92,7 @@ module _ {L : Type 0} (K : Kind L) (sum : SumLaws K) (join : JoinLaws K) (t : Ta
   rounds_extent zero i h = omega (arith, sum.empty)
   rounds_extent (suc n) i h =
       fixed_or_free i (free_edge K (axis_of K t pins g) (near_within K (axis_of K t pins g) n) i)
-      (latest_extent K sum join (λ j. (axis_of K t pins g).before j i) (λ j. K.plus (near_within K (axis_of K t pins g) n j) (side_of K t g j)) t.plan.size (pin_limit + behind i * side_limit)
+      (latest_extent K sum join (λ j. (axis_of K t pins g).before j i) (λ j. next_of K t g j (near_within K (axis_of K t pins g) n j)) t.plan.size (pin_limit + behind i * side_limit)
       (λ j k b.
       let e = near_within K (axis_of K t pins g) n j in
       let ih = rounds_extent n j k in

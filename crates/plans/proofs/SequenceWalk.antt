@@ -8,7 +8,7 @@ use Rattle.plans.proofs.Latest.{latest_along}
 use Rattle.plans.specs.Axes.{free_edge}
 use Rattle.plans.specs.Kinds.{Kind, SumLaws, JoinLaws}
 use Rattle.plans.specs.LaterOfTwo.{latest_onto}
-use Rattle.plans.specs.Packing.{Task, Pins, axis_of, far_of, packed_edge}
+use Rattle.plans.specs.Packing.{Task, Pins, next_of, axis_of, packed_edge}
 use Rattle.plans.specs.PackingTheorems.{Packable}
 use Rattle.plans.specs.Tables.{table_in}
 
@@ -17,19 +17,19 @@ module _ {L : Type 0} (K : Kind L) (sum : SumLaws K) (join : JoinLaws K) (t : Ta
   abbrev earlier : ℕ → List ℕ
   earlier k = take k t.plan.sequence
 
-  -- where each module has a place, all before the one at place k have ended by the latest far edge of those at
-  -- earlier places that stand before it
+  -- where each module has a place, the one at place k is free to begin after all at earlier places that stand
+  -- before it
   pub free_along :
       ((j : ℕ) → j < t.plan.size → (l : ℕ) × (l < t.plan.size) × (get_or t.plan.sequence l 0 ≡ j))
       → (e : ℕ → L) (k i : ℕ) → k < t.plan.size → get_or t.plan.sequence k 0 ≡ i
       → free_edge K (axis_of K t pins g) e i
-      ≡ latest_onto K (λ j. (axis_of K t pins g).before j i) (far_of K t g e) K.origin (earlier k)
+      ≡ latest_onto K (λ j. (axis_of K t pins g).before j i) (λ j. next_of K t g j (e j)) K.origin (earlier k)
   free_along placed e k i h stands =
       let s = t.plan.sequence in
       let fits = ok.feasible.fits in
       let long : length (earlier k) ≡ k = length-take k s ∙ omega (arith, fits.long) in
       sym
-      (latest_along K sum join (λ j. (axis_of K t pins g).before j i) (far_of K t g e) t.plan.size (earlier k)
+      (latest_along K sum join (λ j. (axis_of K t pins g).before j i) (λ j. next_of K t g j (e j)) t.plan.size (earlier k)
       (λ j l b.
       let p = placed j l in
       let code : table_in t.plan j i ≡ g = eqb-true (table_in t.plan j i) g b in
@@ -40,12 +40,12 @@ module _ {L : Type 0} (K : Kind L) (sum : SumLaws K) (join : JoinLaws K) (t : Ta
       let less : l < k = omega (arith, m, long) in
       rw (get_or-take k s l 0 less) (fits.modules l (omega arith))))
 
-  -- so each near edge follows from the far edges at earlier places
+  -- so each near edge follows from those at earlier places
   pub near_along :
       ((j : ℕ) → j < t.plan.size → (l : ℕ) × (l < t.plan.size) × (get_or t.plan.sequence l 0 ≡ j))
       → (k i : ℕ) → k < t.plan.size → get_or t.plan.sequence k 0 ≡ i
       → packed_edge K t pins g i
-      ≡ unwrap_or (pins g i) (latest_onto K (λ j. (axis_of K t pins g).before j i) (far_of K t g (packed_edge K t pins g)) K.origin (earlier k))
+      ≡ unwrap_or (pins g i) (latest_onto K (λ j. (axis_of K t pins g).before j i) (λ j. next_of K t g j (packed_edge K t pins g j)) K.origin (earlier k))
   near_along placed k i h stands =
       let inside : i < t.plan.size = rw stands at (ok.feasible.fits.modules k h) in
       near_settled K (axis_of K t pins g) (axis_orderly K sum t ok pins g edge) i inside

@@ -36,19 +36,29 @@ side_along g rotated s =
     cond (g == 1) (cond rotated s.height s.width) (cond rotated s.width s.height)
 
 module _ {L : Type 0} (K : Kind L) where
+  -- no sides: zero width and height
+  abbrev pub no_sides : Sides L
+  no_sides = record { width = K.origin; height = K.origin }
+
+  -- a record with all its edges at zero
+  abbrev pub at_origin : Placed L
+  at_origin = record { left = K.origin; bottom = K.origin; right = K.origin; top = K.origin }
+
   -- the side of module i along the axis of graph g
   abbrev pub side_of : Task L → ℕ → ℕ → L
-  side_of t g i =
-      side_along g (t.rotated i) (slice_index_or t.sides i (record { width = K.origin; height = K.origin }))
+  side_of t g i = side_along g (t.rotated i) (slice_index_or t.sides i no_sides)
 
-  -- the axis of graph g: a module stands before those to which it has an edge, and ends its side after its
-  -- near edge
+  -- where the next module along the axis of graph g may begin after module i at a near edge: its side after that
+  abbrev pub next_of : Task L → ℕ → ℕ → L → L
+  next_of t g i e = K.plus e (side_of t g i)
+
+  -- the axis of graph g: a module stands before those to which it has an edge
   abbrev pub axis_of : Task L → Pins L → ℕ → Axis L
   axis_of t pins g =
       record {
         size = t.plan.size;
         before = λ j i. (table_in t.plan j i == g);
-        step = λ i e. K.plus e (side_of t g i);
+        step = next_of t g;
         takes = λ i e. K.reach e + K.reach (side_of t g i);
         fixed = pins g;
       }

@@ -3,7 +3,7 @@ use Rattle.std.specs.Prelude.{ℕ, Bool, cond, not, ◌&&◌, ◌||◌, List, le
 use Rattle.std.specs.Option.{option_map}
 use Rattle.plans.specs.Axes.{stuck}
 use Rattle.plans.specs.Kinds.{Kind, possible_side, pin_limit}
-use Rattle.plans.specs.Packing.{Task, Pins, no_pins, one_pin, rotated_once, axis_of, packed_chip, packed_list}
+use Rattle.plans.specs.Packing.{Task, Pins, no_sides, no_pins, one_pin, rotated_once, axis_of, packed_chip, packed_list}
 use Rattle.plans.specs.Search.{first_below, or_else, refusing}
 use Rattle.plans.specs.declared.measures.Sides.{Sides}
 use Rattle.plans.specs.declared.measures.Placed.{Placed}
@@ -24,7 +24,7 @@ module _ {L : Type 0} (K : Kind L) where
   -- a module one of whose sides is not possible
   abbrev pub wrong_side : List (Sides L) → ℕ → Bool
   wrong_side sides i =
-      let s = slice_index_or sides i (record { width = K.origin; height = K.origin }) in
+      let s = slice_index_or sides i (no_sides K) in
       not (possible_side K s.width && possible_side K s.height)
 
   -- the first refusal of any packing

@@ -4,7 +4,7 @@ use Rattle.plans.specs.Changes.{change_refusal}
 use Rattle.plans.specs.FirstRefusals.{FirstRefusal}
 use Rattle.plans.specs.Kinds.{Kind, side_limit, pin_limit}
 use Rattle.plans.specs.Numbers.{number_of_change, told_by_change, told_by_pack, told_by_pinned, told_by_rotation}
-use Rattle.plans.specs.Packing.{Task}
+use Rattle.plans.specs.Packing.{Task, no_sides}
 use Rattle.plans.specs.PackingCalls.{pack_refusal, pin_refusal, rotation_refusal}
 use Rattle.plans.specs.Tables.{Table, Floorplan, table_in}
 use Rattle.plans.specs.declared.change.Change.{Change}
@@ -81,7 +81,7 @@ module _ {L : Type 0} (K : Kind L) where
   PackApplies t results WrongSides = length t.sides ≢ t.plan.size
   PackApplies t results ShortResults = length results < t.plan.size
   PackApplies t results (WrongSide i) =
-      let s : Sides L = slice_index_or t.sides i (record { width = K.origin; height = K.origin }) in
+      let s : Sides L = slice_index_or t.sides i (no_sides K) in
       (i < t.plan.size) × (Possible s.width × Possible s.height → ⊥)
 
   -- with a module pinned; that there is no place is told by the law of the packing

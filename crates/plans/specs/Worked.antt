@@ -64,8 +64,8 @@ abbrev pub counted_sides : List (Sides Count)
 counted_sides = map (λ s. sides (record { long = s.width; borders = 1 }) (record { long = s.height; borders = 1 })) three_sides
 
 -- a task with no module rotated
-abbrev pub task_of : {L : Type 0} → Floorplan → List (Sides L) → Task L
-task_of p all = record { plan = p; rotated = λ i. false; sides = all }
+abbrev pub unrotated_task : {L : Type 0} → Floorplan → List (Sides L) → Task L
+unrotated_task p all = record { plan = p; rotated = λ i. false; sides = all }
 
 -- a placed module
 abbrev pub placed : {L : Type 0} → L → L → L → L → Placed L
@@ -82,7 +82,7 @@ blank = placed 9 9 9 9 ∷ placed 9 9 9 9 ∷ placed 9 9 9 9 ∷ placed 9 9 9 9 
 -- what packing one module of given sides answers
 abbrev pub one_of : ℕ → ℕ → Result (Chip ℕ) PackRefusal
 one_of w h =
-    (after_pack plain_kind (task_of (record { size = 1; codes = 0 ∷ []; sequence = 0 ∷ [] }) (sides w h ∷ [])) blank).answer
+    (after_pack plain_kind (unrotated_task (record { size = 1; codes = 0 ∷ []; sequence = 0 ∷ [] }) (sides w h ∷ [])) blank).answer
 
 -- the literature's seven modules, a to g, by its sequence pair
 abbrev pub seven : Floorplan
@@ -101,7 +101,7 @@ pub record WorkedPlans : Type 0 where
   -- two modules beside each other under a third
   pub accepted : reload two_under_one ≡ Ok two_under_one
   pub packed :
-      after_pack plain_kind (task_of two_under_one three_sides) blank ≡
+      after_pack plain_kind (unrotated_task two_under_one three_sides) blank ≡
       record {
         answer = Ok (chip 7 4 28);
         results = placed 0 0 4 2 ∷ placed 4 0 7 3 ∷ placed 0 3 5 4 ∷ placed 9 9 9 9 ∷ [];
@@ -136,21 +136,21 @@ pub record WorkedPlans : Type 0 where
   pub no_edge : after_change two_under_one (Reverse 1 0) ≡ Err NoEdge
   pub no_edge_number : number_of_change NoEdge ≡ 23
   -- module 1 pinned with room, where it is anyway, and too near, refused by 45
-  pub pinned_far : (after_pack_pinned plain_kind (task_of two_under_one three_sides) blank 1 6 0).answer ≡ Ok (chip 9 4 36)
-  pub pinned_there : (after_pack_pinned plain_kind (task_of two_under_one three_sides) blank 1 4 0).answer ≡ Ok (chip 7 4 28)
+  pub pinned_far : (after_pack_pinned plain_kind (unrotated_task two_under_one three_sides) blank 1 6 0).answer ≡ Ok (chip 9 4 36)
+  pub pinned_there : (after_pack_pinned plain_kind (unrotated_task two_under_one three_sides) blank 1 4 0).answer ≡ Ok (chip 7 4 28)
   pub pinned_near :
-      after_pack_pinned plain_kind (task_of two_under_one three_sides) blank 1 3 0 ≡
+      after_pack_pinned plain_kind (unrotated_task two_under_one three_sides) blank 1 3 0 ≡
       record {
         answer = Err NoPlace;
         results = placed 0 0 4 2 ∷ placed 4 0 7 3 ∷ placed 0 3 5 4 ∷ placed 9 9 9 9 ∷ [];
       }
   pub pinned_number : number_of_pinned NoPlace ≡ 45
   -- module 2 as if rotated once more
-  pub rotated_once : (after_pack_rotated plain_kind (task_of two_under_one three_sides) blank 2).answer ≡ Ok (chip 7 8 56)
+  pub rotated_once : (after_pack_rotated plain_kind (unrotated_task two_under_one three_sides) blank 2).answer ≡ Ok (chip 7 8 56)
   -- no modules
   pub none :
       (after_load [] [] ≡ Ok no_modules)
-      × (after_pack plain_kind (task_of no_modules []) blank ≡
+      × (after_pack plain_kind (unrotated_task no_modules []) blank ≡
       record { answer = Ok (chip 0 0 0); results = blank })
   -- sides of 100,000 are taken; 0 and 100,001, of either side and of whichever module, are refused by 42
   pub greatest_side : one_of 100000 100000 ≡ Ok (chip 100000 100000 10000000000)
@@ -159,13 +159,13 @@ pub record WorkedPlans : Type 0 where
   pub width_beyond : one_of 100001 1 ≡ Err (WrongSide 0)
   pub height_beyond : one_of 1 100001 ≡ Err (WrongSide 0)
   pub later_module :
-      after_pack plain_kind (task_of two_under_one (sides 4 2 ∷ sides 3 3 ∷ sides 5 0 ∷ [])) blank
+      after_pack plain_kind (unrotated_task two_under_one (sides 4 2 ∷ sides 3 3 ∷ sides 5 0 ∷ [])) blank
       ≡ record { answer = Err (WrongSide 2); results = blank }
   pub side_number : number_of_pack (WrongSide 2) ≡ 42
   -- borders are counted along the longest paths of the plan after a move
   pub counted_plan : after_change two_under_one (MoveEdge 0 1) ≡ Ok (three 0 2 2 0 0 2 0 0 0 0 1 2)
   pub counted :
-      (after_pack counted_kind (task_of (three 0 2 2 0 0 2 0 0 0 0 1 2) counted_sides)
+      (after_pack counted_kind (unrotated_task (three 0 2 2 0 0 2 0 0 0 0 1 2) counted_sides)
       (map (λ p. placed (record { long = 9; borders = 9 }) (record { long = 9; borders = 9 }) (record { long = 9; borders = 9 }) (record { long = 9; borders = 9 })) blank)).answer
       ≡ Ok (chip (record { long = 5; borders = 1 }) (record { long = 6; borders = 3 }) 30)
   -- the three shortcuts give plans that a load refuses, or accept one that it refuses
@@ -212,7 +212,7 @@ pub record WorkedPlans : Type 0 where
       repaired (table_in (changed seven (Swap 2 6))) 2 3 4 (0 ∷ 1 ∷ 6 ∷ 3 ∷ 4 ∷ 2 ∷ 5 ∷ []) ≡ 0 ∷ 1 ∷ 6 ∷ 4 ∷ 3 ∷ 2 ∷ 5 ∷ []
   -- its packing, worked out here
   pub seven_packed :
-      after_pack plain_kind (task_of seven seven_sides) (map (λ k. placed 9 9 9 9) (range_with_len 0 7)) ≡
+      after_pack plain_kind (unrotated_task seven seven_sides) (map (λ k. placed 9 9 9 9) (range_with_len 0 7)) ≡
       record {
         answer = Ok (chip 14 15 210);
         results =

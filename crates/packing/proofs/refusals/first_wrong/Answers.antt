@@ -4,6 +4,7 @@ use Rattle.std.proofs.lemmas.Iterator.{YieldsList-from_slice}
 use Rattle.std.proofs.lemmas.Iterator.Search.{position_from_yields_List}
 use Rattle.std.specs.List.{position}
 use Rattle.plans.specs.Kinds.{possible_side}
+use Rattle.plans.specs.Packing.{no_sides}
 use Rattle.plans.specs.declared.measures.Sides.{Sides}
 use Rattle.packing.proofs.WrongSides.{position_first}
 use Rattle.packing.proofs.refusals.first_wrong.Goals as goal
@@ -15,4 +16,4 @@ returns g c =
     let found : c.position.result ≡ position wrong c.args.sides.now =
     position_from_yields_List wrong _ _ c.position.result c.position.ensures.ran
     (YieldsList-from_slice _ c.iter.ensures.rest) (λ x b q k. search rules) in
-    found ∙ position_first wrong c.args.sides.now (record { width = K.origin; height = K.origin })
+    found ∙ position_first wrong c.args.sides.now (no_sides K)
