@@ -1,10 +1,11 @@
 -- What the calls answer and leave, from what their parts do.
-use Rattle.std.proofs.Common.{◌≡◌, ℕ, ◌<◌, ◌≤◌, Bool, true, false, cond, not, ◌&&◌, ◌==◌, nat_lt, if◌then◌else◌, List, ◌++◌, map, length, take, drop, None, Ok, Err, Option, Result, sym, refl, ap, ◌∙◌, subst, lt-ltb, arith}
+use Rattle.std.proofs.Common.{◌≡◌, ℕ, ◌<◌, ◌≤◌, Bool, true, false, cond, not, ◌&&◌, ◌==◌, nat_lt, if◌then◌else◌, List, ◌++◌, map, length, take, drop, None, Ok, Err, Option, Result, sym, refl, ap, ◌∙◌, subst, lt-ltb}
 use Rattle.std.specs.List.{range_with_len}
 use Rattle.std.proofs.lemmas.List.FromFn.{length-map-range_with_len}
 use Rattle.std.proofs.lemmas.List.{drop_at}
 use Rattle.std.proofs.lemmas.Bool.{cond-true, cond-false, not-true, not-false}
 use Rattle.plans.proofs.KindLaws.{later_laws, join_laws}
+use Rattle.plans.proofs.LeastPlacements.{no_pins_near}
 use Rattle.plans.proofs.PackRefusals.{not_refused_packable, not_refused_pinned, not_refused_rotated}
 use Rattle.plans.proofs.PackingAnswers.{pack_answers, pinned_answers, rotated_answers, pack_paths, rotated_paths}
 use Rattle.plans.specs.Kinds.{Kind, Lawful}
@@ -41,9 +42,6 @@ carried_over P answer after o gives =
     subst P (λ x. record { answer = sym gives.0 x; results = sym gives.1 x })
 
 module _ {L : Type 0} (K : Kind L) where
-  none_near : NearPins K no_pins
-  none_near g i v e = let z : ◌≡◌ {A = ℕ} 0 1 = cc in absurd (omega arith)
-
   -- an outcome that no refusal stands before
   outcome_allowed :
       {E : Type 0} (r : Option E) (results : List (Placed L)) (o : Outcome L E) → r ≡ None → refused_or K r results o ≡ o
@@ -58,7 +56,7 @@ module _ {L : Type 0} (K : Kind L) where
           record { packable = q.0; close = close; room = q.1 }
 
       pub ready_free : Ready K t no_pins (length before)
-      ready_free = ready no_pins none_near
+      ready_free = ready no_pins (no_pins_near K)
 
     -- the chip around a filled list
     chip_made :

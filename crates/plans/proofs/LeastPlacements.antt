@@ -13,7 +13,7 @@ use Rattle.plans.specs.LaterOfTwo.{LaterLaws}
 use Rattle.plans.specs.Packing.{Task, Pins, no_pins, side_of, axis_of, far_of, span_of}
 use Rattle.plans.specs.PackingCalls.{no_place}
 use Rattle.plans.specs.PackingTheorems.{Packable, NearPins, packed_placement, PackedPlan, PackedFreely}
-use Rattle.plans.specs.Placements.{Placement, KeepsPlan, EndsWithin, InsidePlan, Overlap, clear, NoLater, LeastPlacement, NoPlacement, ByLongestPaths}
+use Rattle.plans.specs.Placements.{Placement, KeepsPlan, EndsWithin, InsidePlan, Overlap, clear, NoLater, LeastAmong, LeastPlacement, NoPlacement, ByLongestPaths}
 use Rattle.plans.specs.Tables.{table_in}
 
 module _ {L : Type 0} (K : Kind L) (t : Task L) (pins : Pins L) where
@@ -49,6 +49,18 @@ module _ {L : Type 0} (K : Kind L) (t : Task L) (pins : Pins L) where
         | inl b ↦ both_ways (clear K t 1 e.across i j) parts.0 (edge_clear 1 e.across keeps.across i j h k b)
         | inr b ↦ both_ways (clear K t 2 e.up i j) parts.1 (edge_clear 2 e.up keeps.up i j h k b)
       ]
+
+-- of any family and within any limit, two least placements begin each module at the same near edges
+pub one_least :
+    {L : Type 0} (K : Kind L) (sum : SumLaws K) (t : Task L) {Kept Within : Placement L → Type 0} (e f : Placement L)
+    → LeastAmong K t Kept Within e → LeastAmong K t Kept Within f
+    → (i : ℕ) → i < t.plan.size → (e.across i ≡ f.across i) × (e.up i ≡ f.up i)
+one_least K sum t e f a b i h =
+    let there = a.least f b.keeps b.inside in
+    let back = b.least e a.keeps a.inside in (
+      sum.antisymmetric (e.across i) (f.across i) (there.near_across i h) (back.near_across i h),
+      sum.antisymmetric (e.up i) (f.up i) (there.near_up i h) (back.near_up i h),
+    )
 
 module _ {L : Type 0} (K : Kind L) (sum : SumLaws K) (join : JoinLaws K) (t : Task L) (pins : Pins L) where
   module _ (g : ℕ) (e other : ℕ → L) (ends : EndsWithin K t g other) (below : (i : ℕ) → i < t.plan.size → AtMost K (e i) (other i)) where
@@ -132,11 +144,12 @@ module _ {L : Type 0} (K : Kind L) (sum : SumLaws K) (join : JoinLaws K) (t : Ta
               ];
         }
 
+-- with no pins none lies too far out
+pub no_pins_near : {L : Type 0} (K : Kind L) → NearPins K no_pins
+no_pins_near K g i v e = let z : ◌≡◌ {A = ℕ} 0 1 = cc in absurd (omega arith)
+
 -- a packing without pins
 module _ {L : Type 0} (K : Kind L) (sum : SumLaws K) (t : Task L) (ok : Packable K t) where
-  no_pins_near : NearPins K no_pins
-  no_pins_near g i v e = let z : ◌≡◌ {A = ℕ} 0 1 = cc in absurd (omega arith)
-
   always_place : no_place K t no_pins ≡ false
   always_place =
       or_from (stuck K (axis_of K t no_pins 1)) (stuck K (axis_of K t no_pins 2))
@@ -144,7 +157,7 @@ module _ {L : Type 0} (K : Kind L) (sum : SumLaws K) (t : Task L) (ok : Packable
 
   pub packed_freely : JoinLaws K → PackedFreely K t
   packed_freely join =
-      let packed = packed_plan K sum join t no_pins ok no_pins_near in
+      let packed = packed_plan K sum join t no_pins ok (no_pins_near K) in
       record { within = packed.within; least = packed.least always_place }
 
   -- is by longest paths where the later of two is one of the two
@@ -152,7 +165,7 @@ module _ {L : Type 0} (K : Kind L) (sum : SumLaws K) (t : Task L) (ok : Packable
     longest : (g : ℕ) → 0 < g → LongestAlong K (axis_of K t no_pins g)
     longest g edge =
         longest_along K (axis_of K t no_pins g) sum later (axis_orderly K sum t ok no_pins g edge) (λ i h. refl)
-        (near_inside K sum later.join t ok no_pins no_pins_near g edge).steps
+        (near_inside K sum later.join t ok no_pins (no_pins_near K) g edge).steps
 
     pub packed_longest : ByLongestPaths K t (packed_placement K t no_pins)
     packed_longest =

@@ -48,7 +48,7 @@ module _ {L : Type 0} (K : Kind L) where
   abbrev pub side_of : Task L → ℕ → ℕ → L
   side_of t g i = side_along g (t.rotated i) (slice_index_or t.sides i no_sides)
 
-  -- where the next module along the axis of graph g may begin after module i at a near edge: its side after that
+  -- where the next module along the axis of graph g may begin after module i at a near edge: at its far edge
   abbrev pub next_of : Task L → ℕ → ℕ → L → L
   next_of t g i e = K.plus e (side_of t g i)
 

@@ -57,6 +57,13 @@ pub record InsideByEnds (L : Type 0) : Type 0 where
   pub enough : (K : Kind L) (t : Task L) (g : ℕ) (e : ℕ → L) → EndsWithin K t g e → InsideAlong K t g e
   pub needed : (K : Kind L) (t : Task L) (g : ℕ) (e : ℕ → L) → InsideAlong K t g e → EndsWithin K t g e
 
+-- there is but one least placement: two begin each module at the same near edges
+abbrev pub OneLeast : Type 0 → Type 0
+OneLeast L =
+    (K : Kind L) → SumLaws K → (t : Task L) (pins : Pins L) (e f : Placement L)
+    → LeastPlacement K t pins e → LeastPlacement K t pins f
+    → (i : ℕ) → i < t.plan.size → (e.across i ≡ f.across i) × (e.up i ≡ f.up i)
+
 -- with any pins that are not too far out, by the laws of sums and of the later of two
 abbrev pub PacksPlans : Type 0 → Type 0
 PacksPlans L =

@@ -4,7 +4,7 @@ ghost use Rattle.plans.specs.CarriedPackings.{CarriedPackings, CountedIsPlain};
 ghost use Rattle.plans.specs.Kinds.{Lawful, plain_kind, counted_kind};
 ghost use Rattle.plans.specs.LaterOfTwo.{LaterIsJoin};
 ghost use Rattle.plans.specs.PackingAnswers.{PackAnswers, PinnedAnswers, RotatedAnswers, PathAnswers};
-ghost use Rattle.plans.specs.PackingTheorems.{PacksPlans, PackIsLeast, PinnedIsLeast, RotatedIsLeast, PacksByLongestPaths, InsideByEnds};
+ghost use Rattle.plans.specs.PackingTheorems.{PacksPlans, PackIsLeast, PinnedIsLeast, RotatedIsLeast, PacksByLongestPaths, InsideByEnds, OneLeast};
 
 // Plain and counted lengths have the laws of a kind of length.
 pub fn lawful_kinds()
@@ -30,7 +30,7 @@ pub fn packing_along_an_axis<L>()
 // each near and far edge, width, height and area is at most any other placement's. With a module pinned it does
 // so too, or else there is no placement; with one rotated once more it does. No sum goes beyond the limit. Without
 // a pin, near edges are longest paths where any two lengths compare. A placement is within the limit exactly where
-// every module ends within it.
+// every module ends within it, and there is but one least placement.
 pub fn packing_a_floorplan<L>()
     ensures plans { PacksPlans L }
     ensures pack { PackIsLeast L }
@@ -38,6 +38,7 @@ pub fn packing_a_floorplan<L>()
     ensures rotated { RotatedIsLeast L }
     ensures longest { PacksByLongestPaths L }
     ensures inside { InsideByEnds L }
+    ensures one { OneLeast L }
 {}
 
 // A map between two kinds of length that keeps zero, sums, the later of two and extents carries packings along.
