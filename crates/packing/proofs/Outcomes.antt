@@ -4,7 +4,7 @@ use Rattle.std.specs.List.{range_with_len}
 use Rattle.std.proofs.lemmas.List.FromFn.{length-map-range_with_len}
 use Rattle.std.proofs.lemmas.List.{drop_at}
 use Rattle.std.proofs.lemmas.Bool.{cond-true, cond-false, not-true, not-false}
-use Rattle.plans.proofs.KindLaws.{later_laws, join_laws}
+use Rattle.plans.proofs.KindLaws.{lawful_later, join_laws}
 use Rattle.plans.proofs.LeastPlacements.{no_pins_near}
 use Rattle.plans.proofs.PackRefusals.{not_refused_packable, not_refused_pinned, not_refused_rotated}
 use Rattle.plans.proofs.PackingAnswers.{pack_answers, pinned_answers, rotated_answers, pack_paths, rotated_paths}
@@ -98,7 +98,7 @@ module _ {L : Type 0} (K : Kind L) (t : Task L) (before : List (Placed L)) (feas
       → ShowsLongest K t before answer after
   pack_shows_paths law answer after gives =
       carried_over (ShowsPaths K t before) answer after (after_pack K t before) gives
-      (pack_paths K law.sum (later_laws K law.sum law.total) t feasible before)
+      (pack_paths K law.sum (lawful_later K law) t feasible before)
 
   -- pack with a module pinned
   module _ (p : Pin L) where
@@ -182,7 +182,7 @@ module _ {L : Type 0} (K : Kind L) (t : Task L) (before : List (Placed L)) (feas
               (rotated_answers K law.sum (join_laws K law) t feasible before a);
           longest =
               carried_over (ShowsPaths K looked before) (Ok chip) after (after_pack_rotated K t before a) gives
-              (rotated_paths K law.sum (later_laws K law.sum law.total) t feasible before a);
+              (rotated_paths K law.sum (lawful_later K law) t feasible before a);
         }
 
 -- a set with one module toggled makes the task with that module rotated once more

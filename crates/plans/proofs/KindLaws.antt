@@ -29,9 +29,12 @@ module _ {L : Type 0} (K : Kind L) (sum : SumLaws K) (total : TotalLaws K) where
         picks = by_order (λ a b. (K.later a b ≡ a) ⊎ (K.later a b ≡ b)) (λ a b h e. inr e) (λ a b h e. inl e);
       }
 
--- in a lawful kind the later of two is the least that both are at most
+-- so in a lawful kind
+pub lawful_later : {L : Type 0} (K : Kind L) → Lawful K → LaterLaws K
+lawful_later K law = later_laws K law.sum law.total
+
 pub join_laws : {L : Type 0} (K : Kind L) → Lawful K → JoinLaws K
-join_laws K law = (later_laws K law.sum law.total).join
+join_laws K law = (lawful_later K law).join
 
 -- plain lengths are lawful
 pub plain_lawful : Lawful plain_kind

@@ -24,7 +24,7 @@ use Rattle.plans.specs.declared.pack_refusals.PinnedRefusal.TheVariants.{Packing
 
 module _ {L : Type 0} (K : Kind L) where
   -- a call that answers a chip was not refused
-  pub answered_not_refused :
+  answered_not_refused :
       {E : Type 0} (r : Option E) (results : List (Placed L)) (o : Outcome L E) (chip : Chip L)
       → (refused_or K r results o).answer ≡ Ok chip → (r ≡ None) × (refused_or K r results o ≡ o)
   answered_not_refused (Some e) results o chip h = let z : ◌≡◌ {A = ℕ} 0 1 = cc in absurd (omega arith)
