@@ -1,6 +1,6 @@
 -- A load accepts exactly what is feasible, and so exactly what the published definition admits.
-use Rattle.std.proofs.Common.{◌≡◌, ℕ, ◌*◌, ◌<◌, ◌≤◌, ◌≢◌, ◌⊎◌, List, length, get_or, Some, None, Option, sym, refl, ◌∙◌, subst, inl, inr, arith}
-use Rattle.std.proofs.lemmas.Bool.{cases_eq, cases_lt, cases_order}
+use Rattle.std.proofs.Common.{◌≡◌, ℕ, ◌*◌, ◌<◌, ◌≤◌, ◌≢◌, ◌⊎◌, true, not, List, length, get_or, is_some, Some, None, Option, sym, refl, ap, ◌∙◌, subst, inl, inr, arith}
+use Rattle.std.proofs.lemmas.Bool.{cases_eq, cases_lt, cases_order, false≢true}
 use Rattle.plans.proofs.LoadFirst.{load_first}
 use Rattle.plans.proofs.Places.{place_at}
 use Rattle.plans.proofs.Pigeonhole.{Different}
@@ -11,7 +11,7 @@ use Rattle.plans.specs.FirstRefusals.{FirstRefusal}
 use Rattle.plans.specs.LoadLaw.{LoadLaw, LoadApplies, given}
 use Rattle.plans.specs.Numbers.{number_of_load, told_by_load}
 use Rattle.plans.specs.Tables.{Table, Floorplan, Feasible, table_of}
-use Rattle.plans.specs.Tests.{load_refusal}
+use Rattle.plans.specs.Tests.{load_refusal, loadable}
 use Rattle.plans.specs.declared.refusals.LoadRefusal.{LoadRefusal}
 use Rattle.plans.specs.declared.refusals.LoadRefusal.TheVariants.{WrongShape, WrongCode, SelfRelated, NotOneEdge, NotClosed, WrongPlace, Backwards}
 
@@ -165,3 +165,18 @@ load_law =
 pub feasible_given : (p : Floorplan) → Feasible p → given p.codes p.sequence ≡ p
 feasible_given p f =
     λ i. record { size = f.fits.long i; codes = p.codes; sequence = p.sequence }
+
+-- a floorplan that can be loaded is feasible
+pub loadable_feasible : (p : Floorplan) → length p.sequence ≡ p.size → loadable p ≡ true → Feasible p
+loadable_feasible p long e =
+    subst Feasible (λ i. record { size = long i; codes = p.codes; sequence = p.sequence })
+    (load_feasible p.codes p.sequence (unrefused (load_refusal p.codes p.sequence) e))
+  where
+    unrefused : (o : Option LoadRefusal) → not (is_some o) ≡ true → o ≡ None
+    unrefused (Some e) h = absurd (false≢true h)
+    unrefused None h = refl
+
+-- and a feasible one can be loaded
+pub feasible_loadable : (p : Floorplan) → Feasible p → loadable p ≡ true
+feasible_loadable p f =
+    ap (λ o. not (is_some o)) (feasible_load p.codes p.sequence (subst Feasible (sym (feasible_given p f)) f))

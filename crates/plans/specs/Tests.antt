@@ -1,8 +1,8 @@
 -- The first refusal of a table, of a sequence and of a load.
-use Rattle.std.specs.Prelude.{ℕ, ◌*◌, Bool, cond, not, ◌&&◌, ◌||◌, List, length, Option, ◌==◌, nat_eq, nat_le, nat_lt, slice_index}
+use Rattle.std.specs.Prelude.{ℕ, ◌*◌, Bool, cond, not, ◌&&◌, ◌||◌, List, length, is_some, Option, ◌==◌, nat_eq, nat_le, nat_lt, slice_index}
 use Rattle.std.specs.Option.{option_map}
 use Rattle.plans.specs.Search.{first_below, first_pair, some_below, or_else, refusing, place_of}
-use Rattle.plans.specs.Tables.{Table, table_of}
+use Rattle.plans.specs.Tables.{Table, Floorplan, table_of}
 use Rattle.plans.specs.declared.refusals.LoadRefusal.{LoadRefusal}
 use Rattle.plans.specs.declared.refusals.LoadRefusal.TheVariants.{WrongShape, WrongCode, SelfRelated, NotOneEdge, NotClosed, WrongPlace, Backwards}
 
@@ -59,3 +59,7 @@ sequence_refusal c s =
 abbrev pub load_refusal : List ℕ → List ℕ → Option LoadRefusal
 load_refusal codes s =
     or_else (table_refusal 64 2 (length s) codes) (sequence_refusal (table_of (length s) codes) s)
+
+-- a load of a floorplan's own codes and sequence is not refused
+abbrev pub loadable : Floorplan → Bool
+loadable p = not (is_some (load_refusal p.codes p.sequence))
