@@ -33,7 +33,8 @@ module_at p k = cond (nat_lt k (length p.sequence)) (Some (slice_index p.sequenc
 abbrev pub no_modules : Floorplan
 no_modules = record { size = 0; codes = []; sequence = [] }
 
--- a table of m modules, at most a limit of them, whose relations are closure graphs, one for each code up to the greatest
+-- a table of m modules, at most a limit of them, whose relations are closure graphs, one for each code up to
+-- the greatest
 pub record ClosedTable (limit greatest m : ℕ) (c : Table) : Type 0 where
   -- at most so many modules
   pub few : m ≤ limit
