@@ -1,6 +1,6 @@
 -- What the representation by two closure graphs means, and what is told of its edges and of its graphs after a change.
 use Rattle.std.specs.Prelude.{◌≡◌, ℕ, true, Some, None, Ok, Err, Result}
-use Rattle.closure_graphs.specs.Sound.{table_drawn, graphs_plan, loadable}
+use Rattle.closure_graphs.specs.Sound.{table_drawn, graphs_plan}
 use Rattle.closure_graphs.specs.Shown.{Shown, facing}
 use Rattle.closure_graphs.specs.declared.closure_graphs.ClosureGraphs.{ClosureGraphs}
 use Rattle.closure_graphs.specs.declared.edge.Edge.{Edge}
@@ -8,6 +8,7 @@ use Rattle.plans.specs.Changes.{edge_refusal, change_refusal, changed, with_tabl
 use Rattle.plans.specs.Directions.{code_along}
 use Rattle.plans.specs.Tables.{Floorplan, FeasibleTable, table_in}
 use Rattle.plans.specs.Sequences.{fitting}
+use Rattle.plans.specs.Tests.{loadable}
 use Rattle.plans.specs.declared.change.Change.{Change}
 use Rattle.plans.specs.declared.refusals.ChangeRefusal.{ChangeRefusal}
 use Rattle.table_tests.specs.declared.build.TwoGraphs.{TwoGraphs}

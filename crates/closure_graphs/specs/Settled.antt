@@ -1,32 +1,17 @@
 -- Two graphs that show the table of a feasible floorplan draw it.
-use Rattle.std.specs.Prelude.{◌≡◌, ℕ, ◌≤◌, true, not, List, length, take, is_some, Some, None, Option, refl}
+use Rattle.std.specs.Prelude.{◌≡◌, ℕ, ◌≤◌, true, List, length, take, refl}
 use Rattle.std.proofs.Common.{arith, sym, ◌∙◌, ap, subst}
 use Rattle.std.proofs.lemmas.List.{length-take-le}
-use Rattle.std.proofs.lemmas.Bool.{false≢true}
 use Rattle.plans.proofs.ChangesFeasible.{table_of_changed}
-use Rattle.plans.proofs.LoadLaw.{load_feasible, feasible_load, feasible_given}
+use Rattle.plans.proofs.LoadLaw.{loadable_feasible, feasible_loadable}
 use Rattle.plans.specs.Changes.{with_table}
 use Rattle.plans.specs.Tables.{Table, Floorplan, Feasible, FeasibleTable, table_in, codes_of}
-use Rattle.plans.specs.Tests.{load_refusal}
+use Rattle.plans.specs.Tests.{loadable}
 use Rattle.table_tests.proofs.Passed.{shown_table}
 use Rattle.table_tests.specs.declared.build.TwoGraphs.{TwoGraphs}
 use Rattle.closure_graphs.specs.Meaning.{Draws, with_graphs}
 use Rattle.closure_graphs.specs.Shown.{Shown}
-use Rattle.closure_graphs.specs.Sound.{table_drawn, graphs_plan, loadable}
-
--- a floorplan that can be loaded is feasible, and the other way round
-not_some : {E : Type 0} (o : Option E) → not (is_some o) ≡ true → o ≡ None
-not_some (Some e) h = absurd (false≢true h)
-not_some None h = refl
-
-pub loadable_feasible : (p : Floorplan) → length p.sequence ≡ p.size → loadable p ≡ true → Feasible p
-loadable_feasible p long e =
-    subst Feasible (λ i. record { size = long i; codes = p.codes; sequence = p.sequence })
-    (load_feasible p.codes p.sequence (not_some (load_refusal p.codes p.sequence) e))
-
-pub feasible_loadable : (p : Floorplan) → Feasible p → loadable p ≡ true
-feasible_loadable p f =
-    ap (λ o. not (is_some o)) (feasible_load p.codes p.sequence (subst Feasible (sym (feasible_given p f)) f))
+use Rattle.closure_graphs.specs.Sound.{table_drawn, graphs_plan}
 
 -- what the graphs of an invariant tell
 module _ (m : ℕ) (two : TwoGraphs) (s : List ℕ) (few : m ≤ 64) (long : length s ≡ 64)

@@ -1,7 +1,8 @@
 // Two closure graphs with their packing sequence.
 ghost use Rattle.std.specs.Prelude.{◌≡◌, ◌≤◌, true, length};
-ghost use Rattle.closure_graphs.specs.Sound.{graphs_plan, loadable};
+ghost use Rattle.closure_graphs.specs.Sound.{graphs_plan};
 ghost use Rattle.plans.specs.Tables.{table_in};
+ghost use Rattle.plans.specs.Tests.{loadable};
 ghost use Rattle.table_tests.specs.Tested.{Shows};
 
 use table_tests::TwoGraphs;

@@ -1,5 +1,5 @@
 -- The first refusal of a call, from the tests made one after another.
-use Rattle.std.proofs.Common.{◌≡◌, ℕ, suc, ◌<◌, ◌≤◌, Bool, true, false, List, [], ◌∷◌, get_or, Some, None, Option, refl, ap, ◌∙◌, subst, inl, inr, arith}
+use Rattle.std.proofs.Common.{◌≡◌, ℕ, suc, ◌<◌, ◌≤◌, ◌⊎◌, Bool, true, false, List, [], ◌∷◌, get_or, Some, None, Option, refl, ap, ◌∙◌, subst, inl, inr, arith}
 use Rattle.std.specs.Option.{option_map}
 use Rattle.std.proofs.lemmas.Bool.{cases_lt}
 use Rattle.plans.proofs.Searches.{first_tells, first_pair_tells}
@@ -162,3 +162,25 @@ pub settles_last :
 settles_last number told Applies lo mid hi (Some e) h k s none = (s.0, omega (arith, s.1), s.2, s.3)
 settles_last number told Applies lo mid hi None h k s none =
     λ f g l applies. elim (cases_lt (number f) mid) [ inl less ↦ s f g less applies | inr more ↦ none f more applies ]
+
+-- refusals that apply to one thing come before those that apply to another: the first of one, or else of the other
+pub first_of_two :
+    {E : Type 0} (number : E → ℕ) (told : E → List ℕ) (Applies Applies' : E → Type 0)
+    → ((e f : E) → Applies e → Applies' f → number e < number f) → (r s : Option E) → FirstRefusal number told Applies r
+    → FirstRefusal number told Applies' s → FirstRefusal number told (λ e. Applies e ⊎ Applies' e) (or_else r s)
+first_of_two number told Applies Applies' order (Some e) s a b = (
+  inl a.0,
+  λ f early applies.
+      elim applies [
+        | inl own ↦ a.1 f early own
+        | inr other ↦
+            let less = order e f a.0 other in
+            elim early [ inl before ↦ omega arith | inr same ↦ omega (arith, same.0) ]
+      ],
+)
+first_of_two number told Applies Applies' order None (Some e) a b = (
+  inr b.0,
+  λ f early applies. elim applies [ inl own ↦ a f own | inr other ↦ b.1 f early other ],
+)
+first_of_two number told Applies Applies' order None None a b =
+    λ f applies. elim applies [ inl own ↦ a f own | inr other ↦ b f other ]

@@ -1,40 +1,37 @@
 -- A load accepts exactly what is feasible, and so exactly what the published definition admits.
-use Rattle.std.proofs.Common.{◌≡◌, ℕ, ◌*◌, ◌<◌, ◌≤◌, ◌≢◌, ◌⊎◌, List, length, get_or, Some, None, Option, sym, refl, ◌∙◌, subst, inl, inr, arith}
-use Rattle.std.proofs.lemmas.Bool.{cases_eq, cases_lt, cases_order}
-use Rattle.plans.proofs.LoadFirst.{load_first}
+use Rattle.std.proofs.Common.{◌≡◌, ℕ, ◌*◌, ◌<◌, ◌≤◌, ◌≢◌, ◌⊎◌, true, not, List, length, get_or, is_some, Some, None, Option, sym, refl, ap, ◌∙◌, subst, inl, inr, arith}
+use Rattle.std.proofs.lemmas.Bool.{cases_eq, cases_lt, cases_order, false≢true}
+use Rattle.plans.proofs.LoadFirst.{table_first, load_first}
 use Rattle.plans.proofs.Places.{place_at}
 use Rattle.plans.proofs.Pigeonhole.{Different}
 use Rattle.plans.proofs.PublishedFeasible.{published_feasible, feasible_unrefused}
 use Rattle.plans.proofs.PublishedLoad.{feasible_published}
 use Rattle.plans.proofs.TableLists.{table_within}
 use Rattle.plans.specs.FirstRefusals.{FirstRefusal}
-use Rattle.plans.specs.LoadLaw.{LoadLaw, LoadApplies, given}
+use Rattle.plans.specs.LoadLaw.{LoadLaw, TableApplies, SequenceApplies, LoadApplies, given}
 use Rattle.plans.specs.Numbers.{number_of_load, told_by_load}
-use Rattle.plans.specs.Tables.{Table, Floorplan, Feasible, table_of}
-use Rattle.plans.specs.Tests.{load_refusal}
+use Rattle.plans.specs.Tables.{Table, Floorplan, ClosedTable, Fits, Feasible, table_of}
+use Rattle.plans.specs.Tests.{load_refusal, loadable}
 use Rattle.plans.specs.declared.refusals.LoadRefusal.{LoadRefusal}
 use Rattle.plans.specs.declared.refusals.LoadRefusal.TheVariants.{WrongShape, WrongCode, SelfRelated, NotOneEdge, NotClosed, WrongPlace, Backwards}
 
--- where no refusal applies
-module _ (codes s : List ℕ) (clean : (e : LoadRefusal) → LoadApplies codes s e → ⊥) where
-  abbrev m : ℕ
-  m = length s
-
+-- where no refusal of a table applies
+module _ (limit greatest m : ℕ) (codes : List ℕ) (clean : (e : LoadRefusal) → TableApplies limit greatest m codes e → ⊥) where
   abbrev c : Table
   c = table_of m codes
 
   inside : (i j : ℕ) → 0 < c i j → (i < m) × (j < m)
   inside = table_within m codes
 
-  few : m ≤ 64
-  few = elim (cases_lt 64 m) [ inl more ↦ absurd (clean WrongShape (inl more)) | inr less ↦ less ]
+  few : m ≤ limit
+  few = elim (cases_lt limit m) [ inl more ↦ absurd (clean WrongShape (inl more)) | inr less ↦ less ]
 
-  full : length codes ≡ m * m
-  full = elim (cases_eq (length codes) (m * m)) [ inl same ↦ same | inr other ↦ absurd (clean WrongShape (inr other)) ]
+  pub clean_full : length codes ≡ m * m
+  clean_full = elim (cases_eq (length codes) (m * m)) [ inl same ↦ same | inr other ↦ absurd (clean WrongShape (inr other)) ]
 
-  small : (i j : ℕ) → c i j ≤ 2
+  small : (i j : ℕ) → c i j ≤ greatest
   small i j =
-      elim (cases_lt 2 (c i j)) [
+      elim (cases_lt greatest (c i j)) [
         | inl more ↦ let w = inside i j (omega arith) in absurd (clean (WrongCode i j) (w.0, w.1, more))
         | inr less ↦ less
       ]
@@ -90,14 +87,28 @@ module _ (codes s : List ℕ) (clean : (e : LoadRefusal) → LoadApplies codes s
             absurd (clean (NotClosed i k) (u.0, v.1, (j, u.1, omega arith, b ∙ sym a, λ e. other (e ∙ a))))
       ]
 
-  modules : (k : ℕ) → k < m → get_or s k 0 < m
-  modules k h =
-      elim (cases_lt (get_or s k 0) m) [ inl less ↦ less | inr more ↦ absurd (clean (WrongPlace k) (h, inl more)) ]
+  pub clean_closed : ClosedTable limit greatest m c
+  clean_closed =
+      record {
+        few = few;
+        small = small;
+        within = inside;
+        apart = apart;
+        joined = some_edge;
+        oneway = no_second;
+        closed = closed;
+      }
 
-  new : (k l : ℕ) → l < k → k < m → get_or s l 0 ≢ get_or s k 0
+-- where no module is related to itself, and no refusal of a sequence applies
+module _ (d : Table) (s : List ℕ) (alone : (i : ℕ) → d i i ≡ 0) (clean : (e : LoadRefusal) → SequenceApplies d s e → ⊥) where
+  modules : (k : ℕ) → k < length s → get_or s k 0 < length s
+  modules k h =
+      elim (cases_lt (get_or s k 0) (length s)) [ inl less ↦ less | inr more ↦ absurd (clean (WrongPlace k) (h, inl more)) ]
+
+  new : (k l : ℕ) → l < k → k < length s → get_or s l 0 ≢ get_or s k 0
   new k l h g e = clean (WrongPlace k) (g, inr (l, h, e))
 
-  at_one : (k l : ℕ) → k < m → l < m → get_or s k 0 ≡ get_or s l 0 → k ≡ l
+  at_one : (k l : ℕ) → k < length s → l < length s → get_or s k 0 ≡ get_or s l 0 → k ≡ l
   at_one k l h g e =
       elim (cases_order k l) [
         | inl same ↦ same
@@ -105,42 +116,35 @@ module _ (codes s : List ℕ) (clean : (e : LoadRefusal) → LoadApplies codes s
         | inr (inr more) ↦ absurd (new k l more h (sym e))
       ]
 
-  along : (k l : ℕ) → k < m → l < m → 0 < c (get_or s k 0) (get_or s l 0) → k < l
+  along : (k l : ℕ) → k < length s → l < length s → 0 < d (get_or s k 0) (get_or s l 0) → k < l
   along k l h g e =
       elim (cases_order k l) [
         | inl same ↦
-            let z = apart (get_or s k 0) in
-            let y : 0 < c (get_or s k 0) (get_or s k 0) = subst (λ n. 0 < c (get_or s k 0) (get_or s n 0)) (sym same) e in
+            let z = alone (get_or s k 0) in
+            let y : 0 < d (get_or s k 0) (get_or s k 0) = subst (λ n. 0 < d (get_or s k 0) (get_or s n 0)) (sym same) e in
             absurd (omega arith)
         | inr (inl less) ↦ less
         | inr (inr more) ↦
-            let different : Different m (λ n. get_or s n 0) = record { below = modules; once = at_one } in
-            let u = place_at m s refl different k h in
-            let v = place_at m s refl different l g in
+            let different : Different (length s) (λ n. get_or s n 0) = record { below = modules; once = at_one } in
+            let u = place_at (length s) s refl different k h in
+            let v = place_at (length s) s refl different l g in
             absurd (clean (Backwards (get_or s k 0) (get_or s l 0)) (modules k h, modules l g, (e, omega arith)))
       ]
 
-  pub clean_feasible : Feasible (given codes s)
-  clean_feasible =
-      record {
-        full = full;
-        table =
-            record {
-              few = few;
-              small = small;
-              within = inside;
-              apart = apart;
-              joined = some_edge;
-              oneway = no_second;
-              closed = closed;
-            };
-        fits = record { long = refl; modules = modules; once = at_one; forward = along };
-      }
+  pub clean_fits : Fits (length s) d s
+  clean_fits = record { long = refl; modules = modules; once = at_one; forward = along }
 
 -- what is not refused is feasible
 pub load_feasible : (codes s : List ℕ) → load_refusal codes s ≡ None → Feasible (given codes s)
 load_feasible codes s e =
-    clean_feasible codes s (subst (FirstRefusal number_of_load told_by_load (LoadApplies codes s)) e (load_first codes s))
+    let m = length s in
+    let clean = subst (FirstRefusal number_of_load told_by_load (LoadApplies codes s)) e (load_first codes s) in
+    let table = clean_closed 64 2 m codes (λ f a. clean f (inl a)) in
+    record {
+      full = clean_full 64 2 m codes (λ f a. clean f (inl a));
+      table = table;
+      fits = clean_fits (table_of m codes) s table.apart (λ f a. clean f (inr a));
+    }
 
 -- and what is feasible is not refused
 pub feasible_load : (codes s : List ℕ) → Feasible (given codes s) → load_refusal codes s ≡ None
@@ -154,6 +158,7 @@ feasible_load codes s f = settle (load_refusal codes s) (load_first codes s)
 pub load_law : LoadLaw
 load_law =
     record {
+      table = table_first;
       first = load_first;
       accepted = λ codes s e. feasible_published (given codes s) (load_feasible codes s e);
       admitted = λ codes s f. feasible_load codes s (published_feasible (given codes s) f);
@@ -165,3 +170,18 @@ load_law =
 pub feasible_given : (p : Floorplan) → Feasible p → given p.codes p.sequence ≡ p
 feasible_given p f =
     λ i. record { size = f.fits.long i; codes = p.codes; sequence = p.sequence }
+
+-- a floorplan that can be loaded is feasible
+pub loadable_feasible : (p : Floorplan) → length p.sequence ≡ p.size → loadable p ≡ true → Feasible p
+loadable_feasible p long e =
+    subst Feasible (λ i. record { size = long i; codes = p.codes; sequence = p.sequence })
+    (load_feasible p.codes p.sequence (unrefused (load_refusal p.codes p.sequence) e))
+  where
+    unrefused : (o : Option LoadRefusal) → not (is_some o) ≡ true → o ≡ None
+    unrefused (Some e) h = absurd (false≢true h)
+    unrefused None h = refl
+
+-- and a feasible one can be loaded
+pub feasible_loadable : (p : Floorplan) → Feasible p → loadable p ≡ true
+feasible_loadable p f =
+    ap (λ o. not (is_some o)) (feasible_load p.codes p.sequence (subst Feasible (sym (feasible_given p f)) f))

@@ -1,14 +1,14 @@
 -- What the published definition admits is feasible, and a load accepts just that.
-use Rattle.std.proofs.Common.{◌≡◌, ℕ, ◌<◌, ◌≢◌, ◌⊎◌, List, length, get_or, sym, refl, inl, inr, arith}
+use Rattle.std.proofs.Common.{◌≡◌, ℕ, ◌*◌, ◌<◌, ◌≢◌, ◌⊎◌, List, length, get_or, sym, refl, inl, inr, arith}
 use Rattle.std.proofs.lemmas.Bool.{cases_eq, cases_lt, cases_order}
 use Rattle.std.proofs.lemmas.Bool.Decides.{nat_tests}
 use Rattle.plans.proofs.Places.{place_at, times_twice}
 use Rattle.plans.proofs.PublishedLoad.{fits_names}
 use Rattle.plans.proofs.TableLists.{table_within}
-use Rattle.plans.specs.LoadLaw.{LoadApplies, given}
+use Rattle.plans.specs.LoadLaw.{TableApplies, SequenceApplies, LoadApplies, given}
 use Rattle.plans.specs.Published.{Published, edge, then}
 use Rattle.plans.specs.Search.{place_of}
-use Rattle.plans.specs.Tables.{Table, Floorplan, Feasible, Fits, table_in, table_of}
+use Rattle.plans.specs.Tables.{Table, Floorplan, ClosedTable, Feasible, Fits, table_in, table_of}
 use Rattle.plans.specs.declared.refusals.LoadRefusal.{LoadRefusal}
 use Rattle.plans.specs.declared.refusals.LoadRefusal.TheVariants.{WrongShape, WrongCode, SelfRelated, NotOneEdge, NotClosed, WrongPlace, Backwards}
 
@@ -91,33 +91,49 @@ pub fits_place : (m : ℕ) (c : Table) (s : List ℕ) → Fits m c s → (k : �
 fits_place m c s t k h =
     place_at m s t.long (record { below = t.modules; once = t.once }) k h
 
--- no refusal applies to a feasible floorplan
+-- no refusal applies to a closed table with all its codes
+pub closed_unrefused :
+    (limit greatest m : ℕ) (codes : List ℕ) → length codes ≡ m * m → ClosedTable limit greatest m (table_of m codes)
+    → (e : LoadRefusal) → TableApplies limit greatest m codes e → ⊥
+closed_unrefused limit greatest m codes full t WrongShape (inl more) = let e = t.few in omega arith
+closed_unrefused limit greatest m codes full t WrongShape (inr other) = other full
+closed_unrefused limit greatest m codes full t (WrongCode i j) a = let e = t.small i j in omega (arith, a.2)
+closed_unrefused limit greatest m codes full t (SelfRelated i j) a =
+    let e = t.apart i in
+    let z : 0 < table_of m codes i i = rw (← a.2.0) at a.2.1 in
+    omega arith
+closed_unrefused limit greatest m codes full t (NotOneEdge i j) a =
+    elim a.2.1 [
+      | inl both ↦ let e = t.oneway i j both.0 in omega arith
+      | inr neither ↦ elim (t.joined i j a.0 a.1 (omega arith)) [ inl e ↦ omega arith | inr e ↦ omega arith ]
+    ]
+closed_unrefused limit greatest m codes full t (NotClosed i k) (h, g, (j, w, more, same, other)) =
+    other (t.closed (table_of m codes i j) i j k more refl same)
+closed_unrefused limit greatest m codes full t (WrongPlace k) a = a
+closed_unrefused limit greatest m codes full t (Backwards i j) a = a
+
+-- none applies to a sequence that fits
+pub fitting_unrefused : (d : Table) (s : List ℕ) → Fits (length s) d s → (e : LoadRefusal) → SequenceApplies d s e → ⊥
+fitting_unrefused d s fits WrongShape a = a
+fitting_unrefused d s fits (WrongCode i j) a = a
+fitting_unrefused d s fits (SelfRelated i j) a = a
+fitting_unrefused d s fits (NotOneEdge i j) a = a
+fitting_unrefused d s fits (NotClosed i j) a = a
+fitting_unrefused d s fits (WrongPlace k) (h, inl large) = let e = fits.modules k h in omega arith
+fitting_unrefused d s fits (WrongPlace k) (h, inr (l, less, same)) =
+    let e = fits.once l k (omega arith) h same in
+    omega arith
+fitting_unrefused d s fits (Backwards i j) a =
+    let (k, x, p) = fits_names (length s) d s fits i a.0 in
+    let (l, y, q) = fits_names (length s) d s fits j a.1 in
+    let e : 0 < d (get_or s k 0) (get_or s l 0) = rw (p, q) a.2.0 in
+    let u : place_of s i ≡ k = rw p at (fits_place (length s) d s fits k x) in
+    let v : place_of s j ≡ l = rw q at (fits_place (length s) d s fits l y) in
+    let w = fits.forward k l x y e in
+    omega (arith, a.2.1)
+
+-- so none applies to a feasible floorplan
 pub feasible_unrefused :
     (codes s : List ℕ) → Feasible (given codes s) → (e : LoadRefusal) → LoadApplies codes s e → ⊥
-feasible_unrefused codes s f WrongShape (inl more) = let e = f.table.few in omega arith
-feasible_unrefused codes s f WrongShape (inr other) = other f.full
-feasible_unrefused codes s f (WrongCode i j) a = let e = f.table.small i j in omega arith
-feasible_unrefused codes s f (SelfRelated i j) a =
-    let e = f.table.apart i in
-    let z : 0 < table_of (length s) codes i i = rw (← a.2.0) at a.2.1 in
-    omega arith
-feasible_unrefused codes s f (NotOneEdge i j) a =
-    elim a.2.1 [
-      | inl both ↦ let e = f.table.oneway i j both.0 in omega arith
-      | inr neither ↦
-          elim (f.table.joined i j a.0 a.1 (omega arith)) [ inl e ↦ omega arith | inr e ↦ omega arith ]
-    ]
-feasible_unrefused codes s f (NotClosed i k) (h, g, (j, w, more, same, other)) =
-    other (f.table.closed (table_of (length s) codes i j) i j k more refl same)
-feasible_unrefused codes s f (WrongPlace k) (h, inl large) = let e = f.fits.modules k h in omega arith
-feasible_unrefused codes s f (WrongPlace k) (h, inr (l, less, same)) =
-    let e = f.fits.once l k (omega arith) h same in
-    omega arith
-feasible_unrefused codes s f (Backwards i j) a =
-    let (k, x, p) = fits_names (length s) (table_of (length s) codes) s f.fits i a.0 in
-    let (l, y, q) = fits_names (length s) (table_of (length s) codes) s f.fits j a.1 in
-    let e : 0 < table_of (length s) codes (get_or s k 0) (get_or s l 0) = rw (p, q) a.2.0 in
-    let u : place_of s i ≡ k = rw p at (fits_place (length s) (table_of (length s) codes) s f.fits k x) in
-    let v : place_of s j ≡ l = rw q at (fits_place (length s) (table_of (length s) codes) s f.fits l y) in
-    let w = f.fits.forward k l x y e in
-    omega (arith, a.2.1)
+feasible_unrefused codes s f e (inl a) = closed_unrefused 64 2 (length s) codes f.full f.table e a
+feasible_unrefused codes s f e (inr a) = fitting_unrefused (table_of (length s) codes) s f.fits e a

@@ -95,11 +95,12 @@ verdict :
     → Option LoadRefusal
 verdict s shape code self edges closed back =
     or_else
+    (or_else
     (or_else (refusing shape WrongShape)
     (or_else (telling_pair WrongCode (first_pair (length s) code))
     (or_else (telling_pair SelfRelated (first_pair (length s) self))
-    (or_else (telling_pair NotOneEdge (first_pair (length s) edges))
-    (telling_pair NotClosed (first_pair (length s) closed))))))
+    (telling_pair NotOneEdge (first_pair (length s) edges)))))
+    (telling_pair NotClosed (first_pair (length s) closed)))
     (or_else (option_map WrongPlace (first_below (length s) (place_wrong s))) (telling_pair Backwards (first_pair (length s) back)))
 
 load_verdict :

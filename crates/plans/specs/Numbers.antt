@@ -102,9 +102,6 @@ abbrev pub told_by_plan : {E : Type 0} → (E → List ℕ) → PlanRefusal E �
 told_by_plan told TrialOpen = []
 told_by_plan told (Refused e) = told e
 
--- no trial to end tells nothing more, nor does a length that can't be made
+-- no trial to end tells nothing more
 abbrev pub told_by_trial : TrialRefusal → List ℕ
 told_by_trial e = []
-
-abbrev pub told_by_length : LengthRefusal → List ℕ
-told_by_length e = []

@@ -33,12 +33,13 @@ module_at p k = cond (nat_lt k (length p.sequence)) (Some (slice_index p.sequenc
 abbrev pub no_modules : Floorplan
 no_modules = record { size = 0; codes = []; sequence = [] }
 
--- a table of m modules whose relations are two closure graphs
-pub record FeasibleTable (m : ℕ) (c : Table) : Type 0 where
-  -- at most 64 modules
-  pub few : m ≤ 64
-  -- no code but 0, 1 and 2
-  pub small : (i j : ℕ) → c i j ≤ 2
+-- a table of m modules, at most a limit of them, whose relations are closure graphs, one for each code up to
+-- the greatest
+pub record ClosedTable (limit greatest m : ℕ) (c : Table) : Type 0 where
+  -- at most so many modules
+  pub few : m ≤ limit
+  -- no code above the greatest
+  pub small : (i j : ℕ) → c i j ≤ greatest
   -- edges join modules
   pub within : (i j : ℕ) → 0 < c i j → (i < m) × (j < m)
   -- no module is related to itself
@@ -49,6 +50,10 @@ pub record FeasibleTable (m : ℕ) (c : Table) : Type 0 where
   pub oneway : (i j : ℕ) → 0 < c i j → c j i ≡ 0
   -- each graph has with (i, j) and (j, k) also (i, k)
   pub closed : (g i j k : ℕ) → 0 < g → c i j ≡ g → c j k ≡ g → c i k ≡ g
+
+-- a table of at most 64 modules whose relations are two closure graphs
+abbrev pub FeasibleTable : ℕ → Table → Type 0
+FeasibleTable m c = ClosedTable 64 2 m c
 
 -- a list that names each number below m once, and each after all that are before it
 pub record Sequenced (m : ℕ) (Before : ℕ → ℕ → Type 0) (s : List ℕ) : Type 0 where

@@ -1,8 +1,8 @@
 -- The first refusal of a table, of a sequence and of a load.
-use Rattle.std.specs.Prelude.{ℕ, ◌*◌, Bool, cond, not, ◌&&◌, ◌||◌, List, length, Option, ◌==◌, nat_eq, nat_le, nat_lt, slice_index}
+use Rattle.std.specs.Prelude.{ℕ, ◌*◌, Bool, cond, not, ◌&&◌, ◌||◌, List, length, is_some, Option, ◌==◌, nat_eq, nat_le, nat_lt, slice_index}
 use Rattle.std.specs.Option.{option_map}
 use Rattle.plans.specs.Search.{first_below, first_pair, some_below, or_else, refusing, place_of}
-use Rattle.plans.specs.Tables.{Table, table_of}
+use Rattle.plans.specs.Tables.{Table, Floorplan, table_of}
 use Rattle.plans.specs.declared.refusals.LoadRefusal.{LoadRefusal}
 use Rattle.plans.specs.declared.refusals.LoadRefusal.TheVariants.{WrongShape, WrongCode, SelfRelated, NotOneEdge, NotClosed, WrongPlace, Backwards}
 
@@ -38,16 +38,20 @@ backwards c s i j = nat_lt 0 (c i j) && nat_lt (place_of s j) (place_of s i)
 abbrev pub telling_pair : (ℕ → ℕ → LoadRefusal) → Option (ℕ × ℕ) → Option LoadRefusal
 telling_pair refusal pair = option_map (λ q. refusal q.0 q.1) pair
 
--- the first refusal of the codes of m modules, at most limit of them, with codes up to the greatest:
+-- the first refusal, but for closure, of the codes of m modules, at most limit of them, with codes up to the greatest:
 -- each test goes over the whole table before the next
-abbrev pub table_refusal : (limit greatest m : ℕ) → List ℕ → Option LoadRefusal
-table_refusal limit greatest m codes =
+abbrev pub codes_refusal : (limit greatest m : ℕ) → List ℕ → Option LoadRefusal
+codes_refusal limit greatest m codes =
     let c = table_of m codes in
     or_else (refusing (misshapen limit m codes) WrongShape)
     (or_else (telling_pair WrongCode (first_pair m (code_wrong greatest c)))
     (or_else (telling_pair SelfRelated (first_pair m (self_related c)))
-    (or_else (telling_pair NotOneEdge (first_pair m (not_one_edge c)))
-    (telling_pair NotClosed (first_pair m (not_closed m c))))))
+    (telling_pair NotOneEdge (first_pair m (not_one_edge c)))))
+
+-- the first refusal of a table: closure is tested last
+abbrev pub table_refusal : (limit greatest m : ℕ) → List ℕ → Option LoadRefusal
+table_refusal limit greatest m codes =
+    or_else (codes_refusal limit greatest m codes) (telling_pair NotClosed (first_pair m (not_closed m (table_of m codes))))
 
 -- the first refusal of a sequence, whose length is the number of modules
 abbrev pub sequence_refusal : Table → List ℕ → Option LoadRefusal
@@ -59,3 +63,7 @@ sequence_refusal c s =
 abbrev pub load_refusal : List ℕ → List ℕ → Option LoadRefusal
 load_refusal codes s =
     or_else (table_refusal 64 2 (length s) codes) (sequence_refusal (table_of (length s) codes) s)
+
+-- a load of a floorplan's own codes and sequence is not refused
+abbrev pub loadable : Floorplan → Bool
+loadable p = not (is_some (load_refusal p.codes p.sequence))

@@ -6,8 +6,8 @@ ghost use Rattle.plans.specs.PlanRefusals.{PlanRefusals};
 ghost use Rattle.plans.specs.RefusalLaws.{ChangeLaw, PackLaw};
 ghost use Rattle.plans.specs.TransposeLaw.{TransposeLaw};
 
-// A load is refused by the first refusal that applies, and accepted exactly where the published
-// definition of the representation admits the codes with the sequence.
+// A load is refused by the first refusal that applies, as is a table alone, for every limit; it is accepted
+// exactly where the published definition of the representation admits the codes with the sequence.
 pub fn load_law()
     ensures { LoadLaw }
 {}

@@ -38,12 +38,18 @@ load_accepted None p old new h = (refl, h.1)
 -- a refusal that applies tells a part of the plan
 applies_in_plan : (codes s : List ℕ) (e : LoadRefusal) → LoadApplies codes s e → ToldInPlan (length s) e
 applies_in_plan codes s WrongShape a = tt
-applies_in_plan codes s (WrongCode i j) a = (a.0, a.1)
-applies_in_plan codes s (SelfRelated i j) a = (a.0, a.1)
-applies_in_plan codes s (NotOneEdge i j) a = (a.0, a.1)
-applies_in_plan codes s (NotClosed i j) a = (a.0, a.1)
-applies_in_plan codes s (WrongPlace k) a = a.0
-applies_in_plan codes s (Backwards i j) a = (a.0, a.1)
+applies_in_plan codes s (WrongCode i j) (inl a) = (a.0, a.1)
+applies_in_plan codes s (WrongCode i j) (inr a) = absurd a
+applies_in_plan codes s (SelfRelated i j) (inl a) = (a.0, a.1)
+applies_in_plan codes s (SelfRelated i j) (inr a) = absurd a
+applies_in_plan codes s (NotOneEdge i j) (inl a) = (a.0, a.1)
+applies_in_plan codes s (NotOneEdge i j) (inr a) = absurd a
+applies_in_plan codes s (NotClosed i j) (inl a) = (a.0, a.1)
+applies_in_plan codes s (NotClosed i j) (inr a) = absurd a
+applies_in_plan codes s (WrongPlace k) (inl a) = absurd a
+applies_in_plan codes s (WrongPlace k) (inr a) = a.0
+applies_in_plan codes s (Backwards i j) (inl a) = absurd a
+applies_in_plan codes s (Backwards i j) (inr a) = (a.0, a.1)
 
 -- a refusal that is answered is the first
 pub answered_first :
@@ -59,4 +65,7 @@ pub shape_right :
     (codes s : List ℕ) (e : LoadRefusal) → length s ≤ 64 → length codes ≡ length s * length s → LoadApplies codes s e
     → e ≢ WrongShape
 shape_right codes s e few full a same =
-    elim (subst (LoadApplies codes s) same a) [ inl many ↦ omega (arith, few, many) | inr other ↦ other full ]
+    elim (subst (LoadApplies codes s) same a) [
+      | inl table ↦ elim table [ inl many ↦ omega (arith, few, many) | inr other ↦ other full ]
+      | inr none ↦ none
+    ]

@@ -3,7 +3,7 @@ use Rattle.std.proofs.Common.{◌≡◌, ℕ, List, length, Some, None, Ok, Err,
 use Rattle.sheets.specs.declared.fault.Finding.{Finding}
 use Rattle.sheets.specs.declared.parsed.Parsed.{Parsed}
 use Rattle.sheets.specs.Checks.{first}
-use Rattle.sheets.specs.Lists.{Cleared, sides_of}
+use Rattle.sheets.specs.Lists.{Cleared, blank_sides}
 use Rattle.sheets.specs.Parsing.{Found, Held, LeavesBy, ReadsAll, ReadsLists, ReadsRoom, checks_for}
 use Rattle.sheets.specs.Reading.{list_checks, sheet_checks}
 use Rattle.sheets.proofs.CheckLemmas.{first_front, first_rest}
@@ -16,7 +16,7 @@ short_told sizes plan h f room =
       found = (all, omega (arith, room.1));
       lists =
           subst (λ o. LeavesBy sizes plan o h h) (sym all)
-          (left_kept (sides_of 0 0) f.wrong h.sides room.2, left_kept 0 f.wrong h.codes room.2, left_kept 0 f.wrong h.places room.2);
+          (left_kept blank_sides f.wrong h.sides room.2, left_kept 0 f.wrong h.codes room.2, left_kept 0 f.wrong h.places room.2);
     }
 
 -- behind lists with room, the sheets decide: what was read of them
@@ -31,7 +31,7 @@ room_read sizes plan before after p room done =
 -- or their fault, behind which the lists are cleared
 pub room_fault : (sizes plan : List ℕ) (before after : Held) (f : Finding)
     → first (list_checks (length before.sides) (length before.codes) (length before.places)) ≡ None → Found sizes plan (sheet_checks sizes plan) f
-    → Cleared (sides_of 0 0) after.sides → Cleared 0 after.codes → Cleared 0 after.places → ReadsLists sizes plan before after (Err f)
+    → Cleared blank_sides after.sides → Cleared 0 after.codes → Cleared 0 after.places → ReadsLists sizes plan before after (Err f)
 room_fault sizes plan before after f room found sides codes places =
     let e : first (checks_for sizes plan before) ≡ Some f =
     first_rest (list_checks (length before.sides) (length before.codes) (length before.places)) (sheet_checks sizes plan) room ∙ found.0 in
@@ -39,5 +39,5 @@ room_fault sizes plan before after f room found sides codes places =
       found = (e, found.1);
       lists =
           subst (λ o. LeavesBy sizes plan o before after) (sym e)
-          (left_cleared (sides_of 0 0) f.wrong before.sides _ found.2 sides, left_cleared 0 f.wrong before.codes _ found.2 codes, left_cleared 0 f.wrong before.places _ found.2 places);
+          (left_cleared blank_sides f.wrong before.sides _ found.2 sides, left_cleared 0 f.wrong before.codes _ found.2 codes, left_cleared 0 f.wrong before.places _ found.2 places);
     }

@@ -26,6 +26,10 @@ pub record Ready {X : Type 0} (n : ℕ) (nought : X) (xs : List X) : Type 0 wher
 abbrev pub sides_of : ℕ → ℕ → Sides Plain
 sides_of w h = record { width = record { 0 = w }; height = record { 0 = h } }
 
+-- no width and no height, as a place holds that was not read
+abbrev pub blank_sides : Sides Plain
+blank_sides = sides_of 0 0
+
 -- the side that stands o bytes into line k of the sizes sheet
 abbrev pub side_at : List ℕ → ℕ → ℕ → ℕ
 side_at sizes k o = number_at sizes (line_start sizes k + o) 8

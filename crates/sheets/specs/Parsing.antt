@@ -12,7 +12,7 @@ use Rattle.sheets.specs.declared.parsed.Parsed.{Parsed}
 use Rattle.sheets.specs.Checks.{Check, first, StandsFirst, NoneApplies}
 use Rattle.sheets.specs.Faults.{clears}
 use Rattle.sheets.specs.Lines.{line_start, part}
-use Rattle.sheets.specs.Lists.{Filled, Cleared, sides_of, sides_read}
+use Rattle.sheets.specs.Lists.{Filled, Cleared, blank_sides, sides_read}
 use Rattle.sheets.specs.Promises.{Passes}
 use Rattle.sheets.specs.Reading.{modules_of, code_read, place_read, list_checks, length_checks, sheet_checks, all_checks}
 use Rattle.sheets.specs.Words.{head_word}
@@ -54,7 +54,7 @@ checks_for sizes plan h = all_checks sizes plan (length h.sides) (length h.codes
 
 -- what a done reading leaves in the lists: what was read, and zero behind it
 pub record Read (sizes plan : List ℕ) (h : Held) : Type 0 where
-  pub sides_there : Filled (sides_of 0 0) (sides_read sizes) (modules_of plan) h.sides
+  pub sides_there : Filled blank_sides (sides_read sizes) (modules_of plan) h.sides
   pub codes_read : Filled 0 (code_read plan (modules_of plan)) (modules_of plan * modules_of plan) h.codes
   pub places_read : Filled 0 (place_read plan (modules_of plan)) (modules_of plan) h.places
 
@@ -77,7 +77,7 @@ Answers sizes plan h r = AnswersBy sizes plan (first (checks_for sizes.now plan.
 abbrev pub LeavesBy : List ℕ → List ℕ → Option Finding → Held → Held → Type 0
 LeavesBy sizes plan None before after = Read sizes plan after
 LeavesBy sizes plan (Some f) before after =
-    Left (sides_of 0 0) f.wrong before.sides after.sides
+    Left blank_sides f.wrong before.sides after.sides
     × Left 0 f.wrong before.codes after.codes
     × Left 0 f.wrong before.places after.places
 

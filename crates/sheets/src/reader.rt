@@ -1,5 +1,5 @@
 // Parsing the two sheets into the caller's lists.
-ghost use Rattle.sheets.specs.Lists.{Ready, sides_of};
+ghost use Rattle.sheets.specs.Lists.{Ready, blank_sides};
 ghost use Rattle.sheets.specs.Parsing.{Answers, FirstOf, Leaves, ReadsAll, ReadsLengths, ReadsLists, ReadsRoom, held};
 
 use crate::fault::{Fault, Finding, Sheet, Wrong};
@@ -53,7 +53,7 @@ fn read_all(
     codes: &mut [u8],
     places: &mut [usize],
 ) -> Result<Parsed, Finding>
-    requires sides { Ready 64 (sides_of 0 0) sides.old }
+    requires sides { Ready 64 blank_sides sides.old }
     requires codes { Ready 4096 0 codes.old }
     requires places { Ready 64 0 places.old }
     ensures { ReadsAll sizes.now plan.now (held sides.new codes.new places.new) result }

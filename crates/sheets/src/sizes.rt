@@ -1,7 +1,7 @@
 // The sizes sheet: two sides a line, one line for each module.
 ghost use Rattle.std.specs.Prelude.{◌≡◌, ◌+◌, ◌≤◌, length};
 ghost use Rattle.sheets.specs.AtLines.{IsLine};
-ghost use Rattle.sheets.specs.Lists.{Front, sides_of, sides_read};
+ghost use Rattle.sheets.specs.Lists.{Front, blank_sides, sides_of, sides_read};
 ghost use Rattle.sheets.specs.Promises.{Passed, Reads};
 ghost use Rattle.sheets.specs.Reading.{is_side, number_at, side_checks, size_line_checks, sizes_checks};
 ghost use Rattle.sheets.specs.declared.fault.Sheet.TheVariants as sheets;
@@ -46,7 +46,7 @@ fn read_size_line(line: Line<'_>) -> Result<Sides<Plain>, Finding>
 pub(crate) fn read_sizes(first: Line<'_>, sides: &mut [Sides<Plain>]) -> Result<(), Finding>
     requires sizes { first.sheet ≡ sheets.Sizes }
     requires first { IsLine first.bytes.now 0 first.at }
-    ensures { Reads sheets.Sizes first.entry.bytes.now (sizes_checks first.entry.bytes.now (length sides.old)) (λ _. Front (sides_of 0 0) (sides_read first.entry.bytes.now) (length sides.old) sides.new) result }
+    ensures { Reads sheets.Sizes first.entry.bytes.now (sizes_checks first.entry.bytes.now (length sides.old)) (λ _. Front blank_sides (sides_read first.entry.bytes.now) (length sides.old) sides.new) result }
 {
     let mut line = first;
     for side in sides.iter_mut() {

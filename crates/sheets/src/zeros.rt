@@ -1,11 +1,11 @@
 // Setting the caller's lists to zero.
-ghost use Rattle.sheets.specs.Lists.{Cleared, sides_of};
+ghost use Rattle.sheets.specs.Lists.{Cleared, blank_sides};
 
 use lengths::{Plain, Sides};
 
 // Sets every place of the three lists to zero.
 pub(crate) fn clear_all(sides: &mut [Sides<Plain>], codes: &mut [u8], places: &mut [usize])
-    ensures sides { Cleared (sides_of 0 0) sides.new }
+    ensures sides { Cleared blank_sides sides.new }
     ensures codes { Cleared 0 codes.new }
     ensures places { Cleared 0 places.new }
 {

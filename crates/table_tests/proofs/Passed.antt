@@ -11,9 +11,8 @@ use Rattle.plans.proofs.TableLists.{table_within, same_table}
 use Rattle.plans.specs.First.{IsFirstPair}
 use Rattle.plans.specs.Search.{refusing, first_pair}
 use Rattle.plans.specs.Tables.{Table, table_of, codes_of}
-use Rattle.plans.specs.Tests.{misshapen, code_wrong, telling_pair}
+use Rattle.plans.specs.Tests.{misshapen, code_wrong, codes_refusal, telling_pair}
 use Rattle.plans.specs.declared.refusals.LoadRefusal.TheVariants.{WrongShape, WrongCode}
-use Rattle.table_tests.specs.Codes.{codes_refusal}
 use Rattle.table_tests.specs.Tested.{Shows, Drawn, graph_table}
 
 -- the graphs of a table with codes up to 2 have that table

@@ -4,9 +4,9 @@ ghost use Rattle.graphs.specs.Edges.{edge};
 ghost use Rattle.module_set.specs.Members.{member};
 ghost use Rattle.plans.specs.Directions.{code_along};
 ghost use Rattle.plans.specs.Search.{first_pair};
-ghost use Rattle.plans.specs.Tests.{not_closed};
+ghost use Rattle.plans.specs.Tests.{codes_refusal, not_closed};
 ghost use Rattle.table_tests.specs.Closure.{missing, JoinsModules};
-ghost use Rattle.table_tests.specs.Codes.{table_in, codes_refusal};
+ghost use Rattle.table_tests.specs.Codes.{table_given};
 ghost use Rattle.table_tests.specs.Tested.{Drawn};
 
 use crate::table::Table;
@@ -27,7 +27,7 @@ impl TwoGraphs {
         requires passed { codes_refusal 64 2 table.modules table.codes.now ≡ None }
         ensures drawn { Drawn table.entry.modules table.entry.codes.now result.right result.above }
         ensures inside { JoinsModules table.entry.modules result.right result.above }
-        ensures missing { first_pair table.entry.modules (missing result.right result.above) ≡ first_pair table.entry.modules (not_closed table.entry.modules (table_in table.entry)) }
+        ensures missing { first_pair table.entry.modules (missing result.right result.above) ≡ first_pair table.entry.modules (not_closed table.entry.modules (table_given table.entry)) }
     {
         TwoGraphs {
             right: graph_of(table, Direction::Right),
@@ -39,7 +39,7 @@ impl TwoGraphs {
 // The edges of a table in this direction.
 fn graph_of(table: Table<'_>, direction: Direction) -> Graph
     requires few { table.modules ≤ 64 }
-    ensures { (i j : ℕ) → edge result i j ≡ (table_in table.entry i j == code_along direction) }
+    ensures { (i j : ℕ) → edge result i j ≡ (table_given table.entry i j == code_along direction) }
 {
     let mut graph = Graph::empty();
     // by the row's number, since chunks of the codes would ask for a test that there are modules

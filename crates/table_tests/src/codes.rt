@@ -2,9 +2,9 @@
 ghost use Rattle.std.specs.Prelude.{◌≡◌, ◌<◌};
 ghost use Rattle.plans.specs.Changes.{unless};
 ghost use Rattle.plans.specs.Search.{first_below, first_pair};
-ghost use Rattle.plans.specs.Tests.{code_wrong, self_related, not_one_edge, telling_pair};
+ghost use Rattle.plans.specs.Tests.{codes_refusal, code_wrong, self_related, not_one_edge, telling_pair};
 ghost use Rattle.plans.specs.declared.refusals.LoadRefusal.TheVariants.{WrongCode, SelfRelated, NotOneEdge};
-ghost use Rattle.table_tests.specs.Codes.{table_in, codes_refusal, TestedTable};
+ghost use Rattle.table_tests.specs.Codes.{table_given, TestedTable};
 
 use crate::rows::first_in_rows;
 use crate::table::Table;
@@ -41,7 +41,7 @@ pub(crate) fn tested_table(
 impl<'a> Table<'a> {
     // No code is above the greatest.
     fn check_greatest(self, greatest: u8) -> Result<(), LoadRefusal>
-        ensures { result ≡ unless (telling_pair WrongCode (first_pair self.entry.modules (code_wrong greatest (table_in self.entry)))) tt }
+        ensures { result ≡ unless (telling_pair WrongCode (first_pair self.entry.modules (code_wrong greatest (table_given self.entry)))) tt }
     {
         let wrong = self.codes.iter().position(|&code| code > greatest);
         wrong.map_or(Ok(()), |k| {
@@ -51,7 +51,7 @@ impl<'a> Table<'a> {
 
     // No module is related to itself.
     fn check_diagonal(self) -> Result<(), LoadRefusal>
-        ensures { result ≡ unless (telling_pair SelfRelated (first_pair self.entry.modules (self_related (table_in self.entry)))) tt }
+        ensures { result ≡ unless (telling_pair SelfRelated (first_pair self.entry.modules (self_related (table_given self.entry)))) tt }
     {
         (0..self.modules)
             .find(|&i| self.code(i, i) > 0)
@@ -60,7 +60,7 @@ impl<'a> Table<'a> {
 
     // Each two modules have one edge.
     fn check_pairs(self) -> Result<(), LoadRefusal>
-        ensures { result ≡ unless (telling_pair NotOneEdge (first_pair self.entry.modules (not_one_edge (table_in self.entry)))) tt }
+        ensures { result ≡ unless (telling_pair NotOneEdge (first_pair self.entry.modules (not_one_edge (table_given self.entry)))) tt }
     {
         first_in_rows(self.modules, |i| self.not_one_edge_with(i)).map_or(
             Ok(()),
@@ -71,7 +71,7 @@ impl<'a> Table<'a> {
     // The first module above i that has no edge with i, or two.
     fn not_one_edge_with(self, i: usize) -> Option<usize>
         requires inside { i < self.modules }
-        ensures { result ≡ first_below self.entry.modules (not_one_edge (table_in self.entry) i) }
+        ensures { result ≡ first_below self.entry.modules (not_one_edge (table_given self.entry) i) }
     {
         (i + 1..self.modules).find(|&j| (self.code(i, j) > 0) == (self.code(j, i) > 0))
     }

@@ -22,12 +22,12 @@ impl<'a> Sequenced<'a> {
     ghost use Rattle.plans.specs.Search.{first_below, first_pair, place_of};
     ghost use Rattle.plans.specs.Tests.{place_wrong, backwards, sequence_refusal, telling_pair};
     ghost use Rattle.plans.specs.declared.refusals.LoadRefusal.TheVariants.{WrongPlace, Backwards};
-    ghost use Rattle.table_tests.specs.Codes.{table_in};
+    ghost use Rattle.table_tests.specs.Codes.{table_given};
     ghost use Rattle.table_tests.specs.Places.{against};
 
     // The first refusal of the sequence.
     pub(crate) fn check(self) -> Result<(), LoadRefusal>
-        ensures { result ≡ unless (sequence_refusal (table_in self.entry.table) self.entry.sequence.now) tt }
+        ensures { result ≡ unless (sequence_refusal (table_given self.entry.table) self.entry.sequence.now) tt }
     {
         self.check_places()?;
         self.check_order()
@@ -50,7 +50,7 @@ impl<'a> Sequenced<'a> {
     // No edge points backwards.
     fn check_order(self) -> Result<(), LoadRefusal>
         requires once { (k : ℕ) → k < length self.sequence.now → place_wrong self.sequence.now k ≡ false }
-        ensures { result ≡ unless (telling_pair Backwards (first_pair (length self.entry.sequence.now) (backwards (table_in self.entry.table) self.entry.sequence.now))) tt }
+        ensures { result ≡ unless (telling_pair Backwards (first_pair (length self.entry.sequence.now) (backwards (table_given self.entry.table) self.entry.sequence.now))) tt }
     {
         let places = self.places();
         first_in_rows(self.table.modules, |i| self.backward_from(&places, i)).map_or(
@@ -62,7 +62,7 @@ impl<'a> Sequenced<'a> {
     // The first module that stands before i and to which i has an edge.
     fn backward_from(self, places: &[usize; 64], i: usize) -> Option<usize>
         requires inside { i < self.table.modules }
-        ensures { result ≡ first_below self.entry.table.modules (against (table_in self.entry.table) places.now i) }
+        ensures { result ≡ first_below self.entry.table.modules (against (table_given self.entry.table) places.now i) }
     {
         let own = places[i];
         self.table

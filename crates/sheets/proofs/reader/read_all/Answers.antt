@@ -10,7 +10,7 @@ use Rattle.sheets.specs.declared.place.Place.{Place}
 use Rattle.sheets.specs.AtLines.{IsLine}
 use Rattle.sheets.specs.Checks.{Check}
 use Rattle.sheets.specs.Lines.{line_start}
-use Rattle.sheets.specs.Lists.{Filled, Front, sides_of, sides_read}
+use Rattle.sheets.specs.Lists.{Filled, Front, blank_sides, sides_read}
 use Rattle.sheets.specs.Parsing.{Found, of_sheet}
 use Rattle.sheets.specs.Promises.{Fails, Passes, Passed}
 use Rattle.sheets.specs.Reading.{code_read, last_checks, modules_of, number_at, place_read, rows_checks, sequence_checks, sizes_checks}
@@ -107,8 +107,8 @@ returns c =
       record { head = head.1.0; modules = head.1.1; offset = script.offset ∙ ap (line_start plan) two; line = script.line ∙ ap (λ k. k + 1) two ∙ omega arith },
       record {
         sides_there =
-            subst (λ k. Filled (sides_of 0 0) (sides_read sizes) k (c.read_sizes.new.sides ++ drop m c.args.sides.now)) e
-            (filled_front (sides_of 0 0) (sides_read sizes) m c.args.sides.now c.read_sizes.new.sides c.requires.sides.clear (c.read_sizes.auto.sides ∙ long) (λ k h. c.in_ok-read_sizes.ensures.1 k (omega arith)));
+            subst (λ k. Filled blank_sides (sides_read sizes) k (c.read_sizes.new.sides ++ drop m c.args.sides.now)) e
+            (filled_front blank_sides (sides_read sizes) m c.args.sides.now c.read_sizes.new.sides c.requires.sides.clear (c.read_sizes.auto.sides ∙ long) (λ k h. c.in_ok-read_sizes.ensures.1 k (omega arith)));
         codes_read =
             subst (λ k. Filled 0 (code_read plan k) (k * k) (c.read_rows.new.codes ++ drop (m * m) c.args.codes.now)) e
             (filled_front 0 (code_read plan m) (m * m) c.args.codes.now c.read_rows.new.codes c.requires.codes.clear (c.read_rows.auto.codes ∙ length-take-le _ _ (omega (arith, mul-le m m 64 64 head.1.2 head.1.2, c.requires.codes.room)))

@@ -5,7 +5,7 @@ use Rattle.sheets.specs.declared.place.Place.{Place}
 use Rattle.sheets.specs.AtLines.{IsLine}
 use Rattle.sheets.specs.declared.fault.Sheet.TheVariants.{Sizes}
 use Rattle.sheets.specs.Lines.{goes_on, line_start}
-use Rattle.sheets.specs.Lists.{sides_of, sides_read}
+use Rattle.sheets.specs.Lists.{blank_sides, sides_of, sides_read}
 use Rattle.sheets.specs.Promises.{Fails, Passes}
 use Rattle.sheets.specs.Reading.{number_at, size_checks, size_line_checks}
 use Rattle.sheets.proofs.CheckLemmas.{fails_front, fails_behind, fails_here, passes_here, passes_both}
@@ -44,7 +44,7 @@ loop-side-preserved c =
       same = ap (λ b. b.now) next.bytes ∙ loop.same;
       at = next_is_line sizes i 16 _ _ loop.at line next.offset next.line (omega arith);
       passed = passed_more (size_checks sizes) i loop.passed passes;
-      read = front_more (sides_of 0 0) (sides_read sizes) i c.loop-side.sides _ (omega arith) read loop.read;
+      read = front_more blank_sides (sides_read sizes) i c.loop-side.sides _ (omega arith) read loop.read;
     }
 
 pub returns-then-goes_on : goal.returns-then-goes_on

@@ -2,7 +2,7 @@
 use Rattle.std.proofs.Common.{◌≡◌, ℕ, ◌<◌}
 use Rattle.sheets.specs.declared.fault.Sheet.TheVariants.{Sizes}
 use Rattle.sheets.specs.AtLines.{IsLine}
-use Rattle.sheets.specs.Lists.{Front, sides_of, sides_read}
+use Rattle.sheets.specs.Lists.{Front, blank_sides, sides_read}
 use Rattle.sheets.specs.Promises.{Passes}
 use Rattle.sheets.specs.Reading.{size_checks}
 use Rattle.sheets.proofs.sizes.read_sizes.Given as goal
@@ -13,5 +13,5 @@ invariant-loop-side l = record {
   same : l.line.bytes.now ≡ l.fn.first.bytes.now;
   at : IsLine l.fn.first.bytes.now l.side-index l.line.at;
   passed : (k : ℕ) → k < l.side-index → Passes (size_checks l.fn.first.bytes.now k);
-  read : Front (sides_of 0 0) (sides_read l.fn.first.bytes.now) l.side-index l.sides;
+  read : Front blank_sides (sides_read l.fn.first.bytes.now) l.side-index l.sides;
 }

@@ -5,13 +5,13 @@ use Rattle.plans.specs.Tests.{backwards}
 use Rattle.plans.specs.declared.refusals.LoadRefusal.TheVariants.{Backwards}
 use Rattle.table_tests.proofs.PairRows.{first_rows, told}
 use Rattle.table_tests.proofs.PlaceMarks.{against_first}
-use Rattle.table_tests.specs.Codes.{table_in}
+use Rattle.table_tests.specs.Codes.{table_given}
 use Rattle.table_tests.proofs.order.Sequenced.check_order.Goals as goal
 
 pub returns : goal.returns
 returns c =
     let s = c.args.self.sequence.now in
-    let t = table_in c.args.self.table in
+    let t = table_given c.args.self.table in
     let m = c.args.self.table.modules in
     let first =
     first_rows (backwards t s) m _ c.first_in_rows.result c.first_in_rows.ensures

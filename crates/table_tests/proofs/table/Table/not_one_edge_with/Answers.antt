@@ -5,13 +5,13 @@ use Rattle.std.proofs.lemmas.Iterator.{first_from_Range}
 use Rattle.plans.proofs.Searches.{first_is}
 use Rattle.plans.specs.Tests.{not_one_edge}
 use Rattle.table_tests.proofs.CodeTests.{range_first, pair_at, pair_low}
-use Rattle.table_tests.specs.Codes.{table_in}
+use Rattle.table_tests.specs.Codes.{table_given}
 use Rattle.table_tests.proofs.table.Table.not_one_edge_with.Goals as goal
 use borrow.Author.Tests.{tests}
 
 pub returns : goal.returns
 returns c =
-    let t = table_in c.args.self in
+    let t = table_given c.args.self in
     let i = c.args.i in
     let q = λ (j : ℕ). beq (ltb 0 (t i j)) (ltb 0 (t j i)) in
     let found =
