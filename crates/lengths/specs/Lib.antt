@@ -4,3 +4,4 @@ pub mod PlainLengths
 pub mod CountedLengths
 pub mod OfferedLemmas
 pub mod CopiedLaws
+pub mod Families

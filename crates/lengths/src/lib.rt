@@ -2,6 +2,7 @@
 #![tactic(auto)]
 
 mod counted;
+mod families;
 mod laws;
 mod length;
 mod plain;
@@ -9,6 +10,7 @@ mod plain;
 mod tests;
 
 pub use counted::Counted;
+pub use families::{OneKind, TwoKinds};
 pub use laws::{counted_is_lawful, counted_without_borders, plain_is_lawful};
 pub use length::Length;
 pub use plain::Plain;

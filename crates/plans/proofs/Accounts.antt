@@ -1,9 +1,12 @@
--- A state is what the account of the calls gives.
+-- A state that the model's calls reach is what the account of its answers gives.
 use Rattle.std.proofs.Common.{◌≡◌, ℕ, List, [], ◌∷◌, ◌++◌, is_ok, Some, None, Option, sym, refl, ap, ◌∙◌}
+use Rattle.plans.specs.Accounts.{Account, Origin, note_if, account_from, replayed, changed_layout, origin_layout, account_state, act_before, acts_of}
+use Rattle.plans.specs.Calls.{Act, load, change, keep, undo, Acted, Call, acts, packs, asks, AnswerTo, Told, calls_of}
 use Rattle.plans.specs.Changes.{change_refusal, changed, unless}
+use Rattle.plans.specs.Kinds.{Kind}
 use Rattle.plans.specs.LoadLaw.{given}
-use Rattle.plans.specs.Model.{Layout, settled, load_step, change_step}
-use Rattle.plans.specs.Runs.{Call, load, change, keep, undo, ask, step, accepted, run, told, Account, Origin, note_if, account_from, replayed, changed_layout, origin_layout, state_of}
+use Rattle.plans.specs.Model.{State, Layout, settled, load_step, change_step}
+use Rattle.plans.specs.ModelRuns.{model_act, after_call, after_calls, model_answer}
 use Rattle.plans.specs.Tests.{load_refusal}
 use Rattle.plans.specs.declared.change.Change.{Change}
 use Rattle.plans.specs.declared.refusals.LoadRefusal.{LoadRefusal}
@@ -17,44 +20,69 @@ replayed_more l (d ∷ ds) c = replayed_more (changed_layout l d) ds c
 abbrev noted : Origin → List Change → Option Change → Account
 noted o kept t = record { origin = o; kept = kept; trial = t }
 
--- one call, with whether it was accepted
-abbrev Notes : Layout → Account → Call → Type 0
-Notes made a c =
-    step (state_of made a) c ≡ state_of made (note_if (accepted (state_of made a) c) a c)
+module _ {I : Type 0} {L : I → Type 0} (K : (kind : I) → Kind (L kind)) where
+  -- each answer is the model's, one after another
+  abbrev pub FromModel : State → List (Told L) → Type 0
+  FromModel s [] = Unit {0}
+  FromModel s (t ∷ ts) = (t.answer ≡ model_answer K s t.call) × FromModel (after_call s t.call) ts
 
-load_notes :
-    (made : Layout) (o : Origin) (ks : List Change) (codes s : List ℕ) (r : Option LoadRefusal)
-    → (load_step (state_of made (noted o ks None)) None (unless r (given codes s))).state
-    ≡ state_of made (note_if (is_ok (load_step (state_of made (noted o ks None)) None (unless r (given codes s))).answer) (noted o ks None) (load codes s))
-load_notes made o ks codes s (Some e) = refl
-load_notes made o ks codes s None = refl
+module _ (made : State) where
+  -- one act, by whether it was accepted
+  abbrev Notes : Account → Act → Type 0
+  Notes a act =
+      (model_act (account_state made a) act).state
+      ≡ account_state made (note_if (is_ok (model_act (account_state made a) act).answer) a act)
 
-change_notes :
-    (made : Layout) (o : Origin) (ks : List Change) (c : Change) (r : Option ChangeRefusal)
-    → (change_step (state_of made (noted o ks None)) c None (unless r (changed (state_of made (noted o ks None)).current.plan c))).state
-    ≡ state_of made (note_if (is_ok (change_step (state_of made (noted o ks None)) c None (unless r (changed (state_of made (noted o ks None)).current.plan c))).answer) (noted o ks None) (change c))
-change_notes made o ks c (Some e) = refl
-change_notes made o ks c None = refl
+  load_notes :
+      (o : Origin) (ks : List Change) (codes s : List ℕ) (r : Option LoadRefusal)
+      → (load_step (account_state made (noted o ks None)) None (unless r (given codes s))).state
+      ≡ account_state made (note_if (is_ok (load_step (account_state made (noted o ks None)) None (unless r (given codes s))).answer) (noted o ks None) (load codes s))
+  load_notes o ks codes s (Some e) = refl
+  load_notes o ks codes s None = refl
 
-step_notes : (made : Layout) (o : Origin) (ks : List Change) (t : Option Change) (c : Call) → Notes made (noted o ks t) c
-step_notes made o ks None (load codes s) = load_notes made o ks codes s (load_refusal codes s)
-step_notes made o ks (Some d) (load codes s) = refl
-step_notes made o ks None (change c) =
-    change_notes made o ks c (change_refusal (replayed (origin_layout made o) ks).plan c)
-step_notes made o ks (Some d) (change c) = refl
-step_notes made o ks None keep = refl
-step_notes made o ks (Some d) keep = ap settled (sym (replayed_more (origin_layout made o) ks d))
-step_notes made o ks None undo = refl
-step_notes made o ks (Some d) undo = refl
-step_notes made o ks t ask = refl
+  change_notes :
+      (o : Origin) (ks : List Change) (c : Change) (r : Option ChangeRefusal)
+      → (change_step (account_state made (noted o ks None)) c None (unless r (changed (account_state made (noted o ks None)).current.plan c))).state
+      ≡ account_state made (note_if (is_ok (change_step (account_state made (noted o ks None)) c None (unless r (changed (account_state made (noted o ks None)).current.plan c))).answer) (noted o ks None) (change c))
+  change_notes o ks c (Some e) = refl
+  change_notes o ks c None = refl
 
--- any number of calls
-pub run_notes :
-    (made : Layout) (a : Account) (cs : List Call)
-    → run (state_of made a) cs ≡ state_of made (account_from a (told (state_of made a) cs))
-run_notes made a [] = refl
-run_notes made a (c ∷ cs) =
-    let e : step (state_of made a) c ≡ state_of made (note_if (accepted (state_of made a) c) a c) =
-    step_notes made a.origin a.kept a.trial c in
-    let b = note_if (accepted (state_of made a) c) a c in
-    ap (λ s. run s cs) e ∙ run_notes made b cs ∙ ap (λ s. state_of made (account_from b (told s cs))) (sym e)
+  act_notes : (o : Origin) (ks : List Change) (t : Option Change) (act : Act) → Notes (noted o ks t) act
+  act_notes o ks None (load codes s) = load_notes o ks codes s (load_refusal codes s)
+  act_notes o ks (Some d) (load codes s) = refl
+  act_notes o ks None (change c) =
+      change_notes o ks c (change_refusal (replayed (origin_layout made.current o) ks).plan c)
+  act_notes o ks (Some d) (change c) = refl
+  act_notes o ks None keep = refl
+  act_notes o ks (Some d) keep = ap (settled made) (sym (replayed_more (origin_layout made.current o) ks d))
+  act_notes o ks None undo = refl
+  act_notes o ks (Some d) undo = refl
+
+  module _ {I : Type 0} {L : I → Type 0} (K : (kind : I) → Kind (L kind)) where
+    -- the account after one call more
+    call_accounts :
+        (a : Account) (s : State) (c : Call L) → s ≡ account_state made a
+        → after_call s c ≡ account_state made (account_from a (act_before c (model_answer K s c) []))
+    call_accounts a s (packs kind p) e = e
+    call_accounts a s (asks q) e = e
+    call_accounts a s (acts act) e =
+        ap (λ x. (model_act x act).state) e ∙ act_notes a.origin a.kept a.trial act
+        ∙ ap (λ x. account_state made (note_if (is_ok (model_act x act).answer) a act)) (sym e)
+
+    -- a call, and then others
+    told_after :
+        (a : Account) (c : Call L) (r : AnswerTo c) (others : List Acted)
+        → account_from (account_from a (act_before c r [])) others ≡ account_from a (act_before c r others)
+    told_after a (acts act) r others = refl
+    told_after a (packs kind p) r others = refl
+    told_after a (asks q) r others = refl
+
+    -- calls whose answers are the model's lead to the state that their account gives
+    pub calls_account :
+        (a : Account) (s : State) (ts : List (Told L)) → FromModel K s ts → s ≡ account_state made a
+        → after_calls s (calls_of ts) ≡ account_state made (account_from a (acts_of ts))
+    calls_account a s [] m e = e
+    calls_account a s (t ∷ ts) m e =
+        calls_account (account_from a (act_before t.call t.answer [])) (after_call s t.call) ts m.1
+        (call_accounts a s t.call e ∙ ap (λ r. account_state made (account_from a (act_before t.call r []))) (sym m.0))
+        ∙ ap (account_state made) (told_after a t.call t.answer (acts_of ts))

@@ -7,12 +7,12 @@ use Rattle.plans.proofs.MoveFeasible.{MovedTells, moved, move_feasible, other_ow
 use Rattle.plans.proofs.ReverseFeasible.{gained_edge, kept_code, reverse_feasible}
 use Rattle.plans.proofs.ReverseTables.{ReversedTells, reversed, never}
 use Rattle.plans.proofs.SwapFeasible.{swap_feasible}
-use Rattle.plans.specs.Changes.{other_graph, exchange, change_refusal, swap_table, reverse_table, move_table}
+use Rattle.plans.specs.Changes.{other_graph, exchange, change_refusal, changed, swap_table, reverse_table, move_table}
 use Rattle.plans.specs.ChangesInWords.{Becomes, ReverseGains, MoveGains, SwapWords, ReverseWords, MoveWords, ChangesAsTold}
 use Rattle.plans.specs.Published.{Edge}
 use Rattle.plans.specs.Sequences.{fitting}
 use Rattle.plans.specs.Tables.{Table, Floorplan, FeasibleTable, Feasible, table_in}
-use Rattle.plans.specs.declared.change.Change.TheVariants.{Swap, Reverse, MoveEdge}
+use Rattle.plans.specs.declared.change.Change.TheVariants.{Rotate, Swap, Reverse, MoveEdge}
 
 module _ (m : ℕ) (c : Table) (law : FeasibleTable m c) (a b : ℕ) (some : 0 < c a b) (single : Single c a b) where
   two : TwoGraphs (other_graph (c a b)) (c a b)
@@ -93,7 +93,7 @@ module _ (m : ℕ) (c : Table) (law : FeasibleTable m c) (a b : ℕ) (some : 0 <
       back (inr e) (inr r) = r.1 ∙ e.0
 
 swap_words :
-    (p : Floorplan) → Feasible p → (a b : ℕ) → change_refusal p (Swap a b) ≡ None → SwapWords p a b
+    (p : Floorplan) → Feasible p → (a b : ℕ) → change_refusal p (Swap a b) ≡ None → SwapWords p (changed p (Swap a b)) a b
 swap_words p law a b e =
     let w = two_accepted p.size a b e in
     let new = swap_feasible p.size (table_in p) law.table a b w.first w.second in
@@ -107,7 +107,7 @@ swap_words p law a b e =
     }
 
 reverse_words :
-    (p : Floorplan) → Feasible p → (a b : ℕ) → change_refusal p (Reverse a b) ≡ None → ReverseWords p a b
+    (p : Floorplan) → Feasible p → (a b : ℕ) → change_refusal p (Reverse a b) ≡ None → ReverseWords p (changed p (Reverse a b)) a b
 reverse_words p law a b e =
     let c = table_in p in
     let r = edge_accepted p.size c a b e in
@@ -126,7 +126,7 @@ reverse_words p law a b e =
     }
 
 move_words :
-    (p : Floorplan) → Feasible p → (a b : ℕ) → change_refusal p (MoveEdge a b) ≡ None → MoveWords p a b
+    (p : Floorplan) → Feasible p → (a b : ℕ) → change_refusal p (MoveEdge a b) ≡ None → MoveWords p (changed p (MoveEdge a b)) a b
 move_words p law a b e =
     let c = table_in p in
     let r = edge_accepted p.size c a b e in
@@ -145,10 +145,7 @@ move_words p law a b e =
     }
 
 pub changes_as_told : ChangesAsTold
-changes_as_told p law =
-    record {
-      rotates = λ a. refl;
-      swaps = swap_words p law;
-      reverses = reverse_words p law;
-      moves = move_words p law;
-    }
+changes_as_told p law (Rotate a) none = refl
+changes_as_told p law (Swap a b) none = swap_words p law a b none
+changes_as_told p law (Reverse a b) none = reverse_words p law a b none
+changes_as_told p law (MoveEdge a b) none = move_words p law a b none

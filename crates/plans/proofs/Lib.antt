@@ -33,10 +33,13 @@ pub mod PackRefusals
 pub mod PackingLaws
 pub mod CarriedPackings
 pub mod ModelLaw
+pub mod RotatedModules
 mod PlanRefusals
 pub mod ChangeFirst
 pub mod PackFirst
 pub mod PackingAnswers
+pub mod RunKept
+pub mod CallsInWords
 pub mod SequenceWalk
 pub mod Pairwise
 pub mod RepairOrder

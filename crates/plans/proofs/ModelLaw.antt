@@ -1,13 +1,13 @@
 -- The law of the model.
 use Rattle.std.proofs.Common.{◌≡◌, ℕ, List, [], ◌∷◌, Some, None, Option, refl}
-use Rattle.plans.proofs.Accounts.{run_notes}
 use Rattle.plans.proofs.ChangesFeasible.{changes_feasible}
 use Rattle.plans.proofs.LoadLaw.{load_feasible}
+use Rattle.plans.specs.Calls.{Act, load, change, keep, undo, Call, acts, packs, asks}
 use Rattle.plans.specs.Changes.{change_refusal, changed, unless}
 use Rattle.plans.specs.LoadLaw.{given}
-use Rattle.plans.specs.Model.{State, Layout, made_of, unrotated, load_step, change_step, keep_step, undo_step}
-use Rattle.plans.specs.ModelLaw.{ModelLaw, FeasibleState, NotedFeasible}
-use Rattle.plans.specs.Runs.{Call, load, change, keep, undo, ask, step, run, new_account}
+use Rattle.plans.specs.Model.{State, Layout, made_of, load_step, change_step, keep_step, undo_step}
+use Rattle.plans.specs.ModelLaw.{FeasibleState, NotedFeasible, RunsFeasible}
+use Rattle.plans.specs.ModelRuns.{model_act, after_call, after_calls}
 use Rattle.plans.specs.Tables.{Floorplan, Feasible}
 use Rattle.plans.specs.Tests.{load_refusal}
 use Rattle.plans.specs.declared.change.Change.{Change}
@@ -36,23 +36,29 @@ undo_keeps : (s : State) (n : Option Layout) → FeasibleState s → NotedFeasib
 undo_keeps s (Some l) f g = record { current = g; noted = tt }
 undo_keeps s None f g = f
 
--- one call keeps a state feasible
-pub step_keeps : (s : State) (c : Call) → FeasibleState s → FeasibleState (step s c)
-step_keeps s (load codes q) f = load_keeps s s.noted codes q (load_refusal codes q) f (load_feasible codes q)
-step_keeps s (change c) f =
+-- an act keeps a state feasible
+pub act_keeps : (s : State) (a : Act) → FeasibleState s → FeasibleState (model_act s a).state
+act_keeps s (load codes q) f = load_keeps s s.noted codes q (load_refusal codes q) f (load_feasible codes q)
+act_keeps s (change c) f =
     change_keeps s s.noted c (changed s.current.plan c) (change_refusal s.current.plan c) f
     (changes_feasible s.current.plan c f.current)
-step_keeps s keep f = keep_keeps s s.noted f
-step_keeps s undo f = undo_keeps s s.noted f f.noted
-step_keeps s ask f = f
+act_keeps s keep f = keep_keeps s s.noted f
+act_keeps s undo f = undo_keeps s s.noted f f.noted
 
-pub run_keeps : (s : State) (cs : List Call) → FeasibleState s → FeasibleState (run s cs)
-run_keeps s [] f = f
-run_keeps s (c ∷ cs) f = run_keeps (step s c) cs (step_keeps s c f)
+module _ {I : Type 0} {L : I → Type 0} where
+  -- so does every call, and so do all of a run
+  call_keeps : (s : State) (c : Call L) → FeasibleState s → FeasibleState (after_call s c)
+  call_keeps s (acts a) f = act_keeps s a f
+  call_keeps s (packs kind p) f = f
+  call_keeps s (asks q) f = f
 
-pub model_law : ModelLaw
-model_law =
-    record {
-      feasible = λ p f cs. run_keeps (made_of p) cs (record { current = f; noted = tt });
-      accounted = λ p cs. run_notes (unrotated p) new_account cs;
-    }
+  pub calls_keep : (s : State) (cs : List (Call L)) → FeasibleState s → FeasibleState (after_calls s cs)
+  calls_keep s [] f = f
+  calls_keep s (c ∷ cs) f = calls_keep (after_call s c) cs (call_keeps s c f)
+
+-- a plan that is made over a feasible floorplan
+pub made_feasible : (p : Floorplan) → Feasible p → FeasibleState (made_of p)
+made_feasible p f = record { current = f; noted = tt }
+
+pub runs_feasible : {I : Type 0} (L : I → Type 0) → RunsFeasible L
+runs_feasible L p f cs = calls_keep (made_of p) cs (made_feasible p f)

@@ -3,15 +3,16 @@ use Rattle.std.proofs.Common.{◌≡◌, ℕ, ◌<◌, true, false, ◌⊎◌, L
 use Rattle.std.specs.Option.{option_map}
 use Rattle.plans.proofs.ChangeFirst.{change_first}
 use Rattle.plans.proofs.LoadFirst.{load_first}
+use Rattle.plans.specs.Calls.{Act, load, change, keep, undo}
 use Rattle.plans.specs.Changes.{unless, after_load, after_change, changed, change_refusal}
 use Rattle.plans.specs.First.{RowBefore}
 use Rattle.plans.specs.FirstRefusals.{FirstRefusal, Earlier}
 use Rattle.plans.specs.LoadLaw.{LoadApplies, given}
 use Rattle.plans.specs.Model.{State, Layout, load_step, change_step, keep_step, undo_step, model_load, model_change}
+use Rattle.plans.specs.ModelRuns.{model_act}
 use Rattle.plans.specs.Numbers.{number_of_load, number_of_change, number_of_trial, told_by_load, told_by_change, told_by_plan, told_by_trial}
 use Rattle.plans.specs.PlanRefusals.{PlanRefusals, refusal_in, rank_of_plan, PlanApplies, PlanLoadApplies, PlanChangeApplies, TrialApplies}
 use Rattle.plans.specs.RefusalLaws.{ChangeApplies}
-use Rattle.plans.specs.Runs.{Call, load, change, keep, undo, ask, step, accepted}
 use Rattle.plans.specs.Tables.{Floorplan}
 use Rattle.plans.specs.Tests.{load_refusal}
 use Rattle.plans.specs.declared.change.Change.{Change}
@@ -143,12 +144,11 @@ undo_left : (s : State) (o : Option Layout) → is_ok (undo_step s o).answer ≡
 undo_left s (Some l) h = absurd (grind arith)
 undo_left s None h = refl
 
-left : (s : State) (c : Call) → accepted s c ≡ false → step s c ≡ s
+left : (s : State) (a : Act) → is_ok (model_act s a).answer ≡ false → (model_act s a).state ≡ s
 left s (load codes sequence) h = load_left s s.noted (after_load codes sequence) h
 left s (change c) h = change_left s c s.noted (after_change s.current.plan c) h
 left s keep h = keep_left s s.noted h
 left s undo h = undo_left s s.noted h
-left s ask h = refl
 
 pub plan_refusals : PlanRefusals
 plan_refusals =

@@ -4,6 +4,7 @@ use Rattle.plans.specs.Changes.{other_graph, exchange, change_refusal, changed}
 use Rattle.plans.specs.Published.{Edge}
 use Rattle.plans.specs.Sequences.{fitting}
 use Rattle.plans.specs.Tables.{Table, Floorplan, Feasible, table_in}
+use Rattle.plans.specs.declared.change.Change.{Change}
 use Rattle.plans.specs.declared.change.Change.TheVariants.{Rotate, Swap, Reverse, MoveEdge}
 
 -- b, and each module with an edge to b once (a, b) is gone
@@ -34,53 +35,51 @@ MoveGains c a b k l = MoveFrom c a b k × MoveTo c a b l
 abbrev pub Becomes : (after had gains loses : Type 0) → Type 0
 Becomes after had gains loses = after ↔ (gains ⊎ (had × (loses → ⊥)))
 
--- a swap in words: a and b stand in each other's place, in both graphs and in the sequence
-pub record SwapWords (p : Floorplan) (a b : ℕ) : Type 0 where
-  pub size : (changed p (Swap a b)).size ≡ p.size
-  pub graphs :
-      (g i j : ℕ)
-      → Edge (table_in (changed p (Swap a b))) g i j ↔ Edge (table_in p) g (exchange a b i) (exchange a b j)
-  pub sequence : (changed p (Swap a b)).sequence ≡ map (exchange a b) p.sequence
+-- a swap in words, from a floorplan p to q: a and b stand in each other's place, in both graphs and in the sequence
+pub record SwapWords (p q : Floorplan) (a b : ℕ) : Type 0 where
+  pub size : q.size ≡ p.size
+  pub graphs : (g i j : ℕ) → Edge (table_in q) g i j ↔ Edge (table_in p) g (exchange a b i) (exchange a b j)
+  pub sequence : q.sequence ≡ map (exchange a b) p.sequence
 
 -- a reverse of (a, b) in words
-pub record ReverseWords (p : Floorplan) (a b : ℕ) : Type 0 where
-  pub size : (changed p (Reverse a b)).size ≡ p.size
+pub record ReverseWords (p q : Floorplan) (a b : ℕ) : Type 0 where
+  pub size : q.size ≡ p.size
   -- its graph gains the edges above, and loses (a, b) alone
   pub own :
       (i j : ℕ) →
-      Becomes (Edge (table_in (changed p (Reverse a b))) (table_in p a b) i j) (Edge (table_in p) (table_in p a b) i j)
+      Becomes (Edge (table_in q) (table_in p a b) i j) (Edge (table_in p) (table_in p a b) i j)
       (ReverseGains (table_in p) a b i j) ((i ≡ a) × (j ≡ b))
   -- the other graph gains none, and loses its edges between the same modules in either direction
   pub other :
       (i j : ℕ) →
-      Becomes (Edge (table_in (changed p (Reverse a b))) (other_graph (table_in p a b)) i j)
-      (Edge (table_in p) (other_graph (table_in p a b)) i j)
+      Becomes (Edge (table_in q) (other_graph (table_in p a b)) i j) (Edge (table_in p) (other_graph (table_in p a b)) i j)
       ⊥ (ReverseGains (table_in p) a b i j ⊎ ReverseGains (table_in p) a b j i)
-  pub sequence : (changed p (Reverse a b)).sequence ≡ fitting p.size (table_in (changed p (Reverse a b)))
+  -- the sequence is the one that fits
+  pub sequence : q.sequence ≡ fitting q.size (table_in q)
 
 -- a move of (a, b) in words
-pub record MoveWords (p : Floorplan) (a b : ℕ) : Type 0 where
-  pub size : (changed p (MoveEdge a b)).size ≡ p.size
+pub record MoveWords (p q : Floorplan) (a b : ℕ) : Type 0 where
+  pub size : q.size ≡ p.size
   -- its graph gains none, and loses the edges that the other gains
   pub own :
       (i j : ℕ) →
-      Becomes (Edge (table_in (changed p (MoveEdge a b))) (table_in p a b) i j) (Edge (table_in p) (table_in p a b) i j)
+      Becomes (Edge (table_in q) (table_in p a b) i j) (Edge (table_in p) (table_in p a b) i j)
       ⊥ (MoveGains (table_in p) a b i j)
   -- the other graph gains the edges above, and loses none
   pub other :
       (i j : ℕ) →
-      Becomes (Edge (table_in (changed p (MoveEdge a b))) (other_graph (table_in p a b)) i j)
-      (Edge (table_in p) (other_graph (table_in p a b)) i j)
+      Becomes (Edge (table_in q) (other_graph (table_in p a b)) i j) (Edge (table_in p) (other_graph (table_in p a b)) i j)
       (MoveGains (table_in p) a b i j) ⊥
-  pub sequence : (changed p (MoveEdge a b)).sequence ≡ p.sequence
+  pub sequence : q.sequence ≡ p.sequence
 
--- what every change that is not refused does to a feasible floorplan
-pub record ChangesInWords (p : Floorplan) : Type 0 where
-  pub rotates : (a : ℕ) → changed p (Rotate a) ≡ p
-  pub swaps : (a b : ℕ) → change_refusal p (Swap a b) ≡ None → SwapWords p a b
-  pub reverses : (a b : ℕ) → change_refusal p (Reverse a b) ≡ None → ReverseWords p a b
-  pub moves : (a b : ℕ) → change_refusal p (MoveEdge a b) ≡ None → MoveWords p a b
+-- what a change does to a floorplan; a rotation leaves it
+abbrev pub ChangeWords : Floorplan → Floorplan → Change → Type 0
+ChangeWords p q (Rotate a) = q ≡ p
+ChangeWords p q (Swap a b) = SwapWords p q a b
+ChangeWords p q (Reverse a b) = ReverseWords p q a b
+ChangeWords p q (MoveEdge a b) = MoveWords p q a b
 
--- for every feasible floorplan
+-- of every feasible floorplan, by every change that is not refused
 abbrev pub ChangesAsTold : Type 0
-ChangesAsTold = (p : Floorplan) → Feasible p → ChangesInWords p
+ChangesAsTold =
+    (p : Floorplan) → Feasible p → (c : Change) → change_refusal p c ≡ None → ChangeWords p (changed p c) c

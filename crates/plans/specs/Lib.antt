@@ -32,8 +32,12 @@ pub mod PackingTheorems
 pub mod PackingAnswers
 pub mod CarriedPackings
 pub mod Model
-pub mod Runs
+pub mod Calls
+pub mod ModelRuns
 pub mod ModelLaw
+pub mod Accounts
+pub mod RunKept
+pub mod CallsInWords
 pub mod PlanRefusals
 pub mod Shortcuts
 pub mod Worked

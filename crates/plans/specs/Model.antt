@@ -31,9 +31,13 @@ unrotated p = record { plan = p; rotated = λ i. false }
 abbrev pub made_of : Floorplan → State
 made_of p = record { current = unrotated p; noted = None }
 
--- no trial is open
-abbrev pub settled : Layout → State
-settled now = record { current = now; noted = None }
+-- a layout is current, and no trial is open
+abbrev pub settled : State → Layout → State
+settled s now = record s { current = now; noted = None }
+
+-- a layout after a change is current, and what was current before is noted
+abbrev pub on_trial : State → Layout → Layout → State
+on_trial s before now = record s { current = now; noted = Some before }
 
 -- which modules are rotated after a change
 abbrev pub rotated_after : (ℕ → Bool) → Change → ℕ → Bool
@@ -60,7 +64,7 @@ done s = record { state = s; answer = Ok tt }
 abbrev pub load_step : State → Option Layout → Result Floorplan LoadRefusal → Step (PlanRefusal LoadRefusal)
 load_step s (Some before) given = refused s TrialOpen
 load_step s None (Err e) = refused s (Refused e)
-load_step s None (Ok p) = done (made_of p)
+load_step s None (Ok p) = done (settled s (unrotated p))
 
 -- load: refused in a trial; else it replaces the floorplan and leaves no module rotated
 abbrev pub model_load : State → List ℕ → List ℕ → Step (PlanRefusal LoadRefusal)
@@ -68,13 +72,13 @@ model_load s codes sequence = load_step s s.noted (after_load codes sequence)
 
 -- a layout after a change of its floorplan
 abbrev pub layout_after : Layout → Change → Floorplan → Layout
-layout_after l c p = record { plan = p; rotated = rotated_after l.rotated c }
+layout_after l c p = record l { plan = p; rotated = rotated_after l.rotated c }
 
 -- a change by whether a trial is open and by what it gives
 abbrev pub change_step : State → Change → Option Layout → Result Floorplan ChangeRefusal → Step (PlanRefusal ChangeRefusal)
 change_step s c (Some before) given = refused s TrialOpen
 change_step s c None (Err e) = refused s (Refused e)
-change_step s c None (Ok p) = done (record { current = layout_after s.current c p; noted = Some s.current })
+change_step s c None (Ok p) = done (on_trial s s.current (layout_after s.current c p))
 
 -- change: refused in a trial; else it opens one, which notes what was current
 abbrev pub model_change : State → Change → Step (PlanRefusal ChangeRefusal)
@@ -83,7 +87,7 @@ model_change s c = change_step s c s.noted (after_change s.current.plan c)
 -- a keep by whether a trial is open
 abbrev pub keep_step : State → Option Layout → Step TrialRefusal
 keep_step s None = refused s NoTrial
-keep_step s (Some before) = done (settled s.current)
+keep_step s (Some before) = done (settled s s.current)
 
 -- keep: refused without a trial; else it drops what was noted
 abbrev pub model_keep : State → Step TrialRefusal
@@ -92,7 +96,7 @@ model_keep s = keep_step s s.noted
 -- an undo by whether a trial is open
 abbrev pub undo_step : State → Option Layout → Step TrialRefusal
 undo_step s None = refused s NoTrial
-undo_step s (Some before) = done (settled before)
+undo_step s (Some before) = done (settled s before)
 
 -- undo: refused without a trial; else it restores what was noted
 abbrev pub model_undo : State → Step TrialRefusal

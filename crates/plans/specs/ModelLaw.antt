@@ -1,7 +1,8 @@
--- The law of the model: every state that calls reach is feasible, and is what the account of the calls gives.
-use Rattle.std.specs.Prelude.{◌≡◌, List, Some, None, Option}
-use Rattle.plans.specs.Model.{State, Layout, made_of, unrotated}
-use Rattle.plans.specs.Runs.{Call, run, told, account, state_of}
+-- The law of the model: every state that calls reach is feasible and rotates modules alone, with what its trial noted.
+use Rattle.std.specs.Prelude.{◌≡◌, ℕ, ◌≤◌, false, List, Some, None, Option}
+use Rattle.plans.specs.Calls.{Call}
+use Rattle.plans.specs.Model.{State, Layout, made_of}
+use Rattle.plans.specs.ModelRuns.{after_calls}
 use Rattle.plans.specs.Tables.{Floorplan, Feasible}
 
 -- what was noted, if a trial is open, is feasible
@@ -14,9 +15,22 @@ pub record FeasibleState (s : State) : Type 0 where
   pub current : Feasible s.current.plan
   pub noted : NotedFeasible s.noted
 
-pub record ModelLaw : Type 0 where
-  -- from a feasible floorplan, calls in any number and order lead to feasible states
-  pub feasible : (p : Floorplan) → Feasible p → (calls : List Call) → FeasibleState (run (made_of p) calls)
-  -- and the state is what the plan came from, then the changes kept since, then the one on trial
-  pub accounted :
-      (p : Floorplan) (calls : List Call) → run (made_of p) calls ≡ state_of (unrotated p) (account (told (made_of p) calls))
+-- no number is rotated that is no module's
+abbrev pub RotatesModules : Layout → Type 0
+RotatesModules l = (i : ℕ) → l.plan.size ≤ i → l.rotated i ≡ false
+
+-- nor in what was noted, if a trial is open
+abbrev pub NotedRotates : Option Layout → Type 0
+NotedRotates noted = (l : Layout) → noted ≡ Some l → RotatesModules l
+
+abbrev pub RotatesWithin : State → Type 0
+RotatesWithin s = RotatesModules s.current × NotedRotates s.noted
+
+-- from a feasible floorplan, calls in any number and order lead to feasible states
+abbrev pub RunsFeasible : {I : Type 0} → (I → Type 0) → Type 0
+RunsFeasible L =
+    (made : Floorplan) → Feasible made → (calls : List (Call L)) → FeasibleState (after_calls (made_of made) calls)
+
+-- and to states that rotate modules alone
+abbrev pub RunsRotate : {I : Type 0} → (I → Type 0) → Type 0
+RunsRotate L = (made : Floorplan) (calls : List (Call L)) → RotatesWithin (after_calls (made_of made) calls)

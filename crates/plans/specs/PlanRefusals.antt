@@ -1,11 +1,12 @@
 -- When each refusal of a plan applies, and the laws that the first is answered and leaves the state.
-use Rattle.std.specs.Prelude.{◌≡◌, ℕ, true, false, List, is_some, Some, None, Ok, Err, Option, Result}
+use Rattle.std.specs.Prelude.{◌≡◌, ℕ, true, false, List, is_ok, is_some, Some, None, Ok, Err, Option, Result}
+use Rattle.plans.specs.Calls.{Act}
 use Rattle.plans.specs.FirstRefusals.{FirstRefusal}
 use Rattle.plans.specs.LoadLaw.{LoadApplies}
 use Rattle.plans.specs.Model.{State, model_load, model_change, model_keep, model_undo}
+use Rattle.plans.specs.ModelRuns.{model_act}
 use Rattle.plans.specs.Numbers.{number_of_load, number_of_change, number_of_trial, told_by_load, told_by_change, told_by_plan, told_by_trial}
 use Rattle.plans.specs.RefusalLaws.{ChangeApplies}
-use Rattle.plans.specs.Runs.{Call, step, accepted}
 use Rattle.plans.specs.declared.change.Change.{Change}
 use Rattle.plans.specs.declared.refusals.ChangeRefusal.{ChangeRefusal}
 use Rattle.plans.specs.declared.refusals.LoadRefusal.{LoadRefusal}
@@ -51,4 +52,4 @@ pub record PlanRefusals : Type 0 where
       → FirstRefusal (rank_of_plan number_of_change) (told_by_plan told_by_change) (PlanChangeApplies s c) (refusal_in (model_change s c).answer)
   pub keep : (s : State) → FirstRefusal number_of_trial told_by_trial (TrialApplies s) (refusal_in (model_keep s).answer)
   pub undo : (s : State) → FirstRefusal number_of_trial told_by_trial (TrialApplies s) (refusal_in (model_undo s).answer)
-  pub leaves : (s : State) (c : Call) → accepted s c ≡ false → step s c ≡ s
+  pub leaves : (s : State) (a : Act) → is_ok (model_act s a).answer ≡ false → (model_act s a).state ≡ s

@@ -3,6 +3,7 @@
 
 mod change;
 mod direction;
+mod family;
 mod graphs;
 mod measures;
 mod pack_refusals;
@@ -13,6 +14,7 @@ mod worked;
 
 pub use change::{Change, exchanged};
 pub use direction::Direction;
+pub use family::Family;
 pub use graphs::{changes_of_graphs, one_sequence};
 pub use measures::{Chip, Placed, Sides};
 pub use pack_refusals::{LengthRefusal, PackRefusal, PinnedRefusal, RotationRefusal};

@@ -1,10 +1,14 @@
 // Theorems about the definitions, each on a function that only carries it.
+ghost use Rattle.plans.specs.CallsInWords.{StepsInWords};
 ghost use Rattle.plans.specs.LoadLaw.{LoadLaw};
-ghost use Rattle.plans.specs.ModelLaw.{ModelLaw};
+ghost use Rattle.plans.specs.ModelLaw.{RunsFeasible, RunsRotate};
 ghost use Rattle.plans.specs.PairLaw.{PairLaw};
 ghost use Rattle.plans.specs.PlanRefusals.{PlanRefusals};
+ghost use Rattle.plans.specs.RunKept.{ModelKeeps};
 ghost use Rattle.plans.specs.RefusalLaws.{ChangeLaw, PackLaw};
 ghost use Rattle.plans.specs.TransposeLaw.{TransposeLaw};
+
+use crate::family::Family;
 
 // A load is refused by the first refusal that applies, as is a table alone, for every limit; it is accepted
 // exactly where the published definition of the representation admits the codes with the sequence.
@@ -18,10 +22,14 @@ pub fn transpose_law()
     ensures { TransposeLaw }
 {}
 
-// From a feasible floorplan every run of calls leads to a feasible state, which is what the account of
-// the calls gives: what the plan came from, the changes kept since, and the one on trial.
-pub fn model_law()
-    ensures { ModelLaw }
+/// From a feasible floorplan every run of calls of the model leads to feasible states that rotate modules alone, and
+/// keeps the law of runs: floorplans as published, least packings, and a plan that the answers account for. Its loads
+/// and changes do what the words say.
+pub fn model_law<F: Family>()
+    ensures feasible { RunsFeasible F.Family.length_of }
+    ensures rotations { RunsRotate F.Family.length_of }
+    ensures words { StepsInWords }
+    ensures kept { ModelKeeps F.Family.kind_of }
 {}
 
 // A change, each packing call, and each call of a plan is refused by the first refusal that applies, but for
