@@ -1,3 +1,5 @@
 -- Lemmas of the plan.
 pub mod Notes
 pub mod ModelSteps
+pub mod RunLaw
+pub mod StepsInWords

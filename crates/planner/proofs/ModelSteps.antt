@@ -40,7 +40,7 @@ module _ (s : State) (o : Option Layout) (closed : o ≡ None) where
   load_done (Ok made) old new rotated f none =
       subst (λ (n : Option Layout). Steps (load_step s n (Ok made)) (record { current = record { plan = new; rotated = rotated }; noted = n }) (Ok tt))
       (sym closed)
-      (record { leads = ap settled (same_layout new made rotated (λ i. false) f.1 none); answers = refl })
+      (record { leads = ap (settled s) (same_layout new made rotated (λ i. false) f.1 none); answers = refl })
   load_done (Err e) old new rotated f none = absurd (done_refused e f.0)
 
   -- a change that was done

@@ -3,8 +3,8 @@ use Rattle.std.proofs.Common.{◌≡◌, ℕ, ◌*◌, true, List, ◌++◌, len
 use Rattle.std.proofs.Math.Seq.{take-append_seam}
 use Rattle.plans.proofs.LoadLaw.{feasible_load, feasible_given}
 use Rattle.plans.specs.Tables.{Floorplan, Feasible}
-use Rattle.plans.specs.Tests.{load_refusal}
-use Rattle.planner.specs.Notes.{loadable}
+use Rattle.plans.specs.Tests.{load_refusal, loadable}
+use Rattle.planner.specs.Notes.{noted_plan}
 
 -- the front of a longer list
 front : (xs more : List ℕ) (n : ℕ) → length xs ≡ n → take n (xs ++ more) ≡ xs
@@ -13,7 +13,7 @@ front xs more n e = rw (← e) (take-append_seam xs more)
 -- its codes and its sequence stand at the front of longer lists
 pub noted_loadable :
     (m : ℕ) (p : Floorplan) (codes more s after : List ℕ) → Feasible p → m ≡ p.size → codes ≡ p.codes → s ≡ p.sequence
-    → loadable m (codes ++ more) (s ++ after) ≡ true
+    → loadable (noted_plan m (codes ++ more) (s ++ after)) ≡ true
 noted_loadable m p codes more s after f size a b =
     let none : load_refusal p.codes p.sequence ≡ None =
     feasible_load p.codes p.sequence (subst Feasible (sym (feasible_given p f)) f) in

@@ -1,7 +1,8 @@
--- What is current as a layout, what a load or a change makes of its rotated modules, and what a trial noted.
-use Rattle.std.specs.Prelude.{◌≡◌, ℕ, Bool, false, Ok, Err, Result}
+-- What is current and what a trial noted as layouts, and what a load or a change makes of rotated modules.
+use Rattle.std.specs.Prelude.{◌≡◌, ℕ, Bool, false, Ok, Err, Option, Result}
+use Rattle.std.specs.Option.{option_map}
 use Rattle.module_set.specs.Members.{member}
-use Rattle.plans.specs.Model.{Layout, rotated_after}
+use Rattle.plans.specs.Model.{Layout, State, rotated_after}
 use Rattle.plans.specs.Tables.{Floorplan}
 use Rattle.plans.specs.declared.change.Change.{Change}
 use Rattle.plans.specs.declared.refusals.ChangeRefusal.{ChangeRefusal}
@@ -17,6 +18,10 @@ layout_of means c = record { plan = means c.representation; rotated = member c.r
 -- the layout that a trial noted
 abbrev pub noted_layout : Noted → Layout
 noted_layout n = record { plan = noted_plan n.size n.codes n.sequence; rotated = member n.rotated }
+
+-- the model's state of what is current and what a trial noted
+abbrev pub state_in : {R : Type 0} → (R → Floorplan) → Current R → Option Noted → State
+state_in means now trial = record { current = layout_of means now; noted = option_map noted_layout trial }
 
 -- the rotated modules after a load: none where it is done, else as they were
 abbrev pub Unrotates : Result (Unit {0}) LoadRefusal → (ℕ → Bool) → (ℕ → Bool) → Type 0

@@ -1,5 +1,8 @@
--- What the calls of a plan promise.
+-- What the calls of a plan promise, and the law of their runs.
 pub mod Notes
 pub mod Layouts
 pub mod States
 pub mod Calls
+pub mod PlanRuns
+pub mod RunLaw
+pub mod PlanCalls

@@ -1,10 +1,9 @@
 -- The model's state, read off a plan.
-use Rattle.std.specs.Option.{option_map}
 use Rattle.plans.specs.Model.{State}
-use Rattle.plans.specs.Tables.{Floorplan}
-use Rattle.planner.specs.Layouts.{layout_of, noted_layout}
+use Rattle.planner.specs.Layouts.{state_in}
 use Rattle.planner.specs.declared.plan.Plan.{Plan}
+use Rattle.representations.specs.declared.representation.Representation.{Ghosts}
 
--- the state of a plan: what is current, and what its trial noted
-abbrev pub state_of : {R : Type 0} → (R → Floorplan) → Plan R → State
-state_of means p = record { current = layout_of means p.current; noted = option_map noted_layout p.trial }
+-- the state of a plan: what is current, by what its representation means, and what its trial noted
+abbrev pub state_of : {R : Type 0} {g : Ghosts R} → Plan R g → State
+state_of {g = g} p = state_in g.means p.current p.trial

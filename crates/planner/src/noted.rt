@@ -1,6 +1,7 @@
 // What an open trial notes.
 ghost use Rattle.std.specs.Prelude.{◌≡◌, ◌*◌, ◌≤◌, true, length};
-ghost use Rattle.planner.specs.Notes.{loadable};
+ghost use Rattle.plans.specs.Tests.{loadable};
+ghost use Rattle.planner.specs.Notes.{noted_plan};
 
 use crate::current::Current;
 use module_set::ModuleSet;
@@ -15,7 +16,7 @@ pub(crate) struct Noted {
     sequence: [usize; 64],
     rotated: ModuleSet,
     ghost few: { size ≤ 64 },
-    ghost sound: { loadable size codes sequence ≡ true },
+    ghost sound: { loadable (noted_plan size codes sequence) ≡ true },
 }
 
 impl Noted {
