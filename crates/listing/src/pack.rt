@@ -19,7 +19,7 @@ pub(crate) fn append_pack<R: Representation>(
     plan: &Plan<R>,
     sides: &[Sides<Counted>],
 ) -> Result<(), AllocError>
-    ensures { Appends out.old.items out.new.items (pack_lines (state_of R.Representation.means plan.now) (in_counts sides.now)) result }
+    ensures { Appends out.old.items out.new.items (pack_lines (state_of plan.now) (in_counts sides.now)) result }
 {
     // As many places as a plan can have modules, whatever the heap has.
     let mut results = [unplaced(); 64];

@@ -36,8 +36,8 @@ fn run_command<R: Representation>(
     sides: &[Sides<Counted>],
     command: Command,
 ) -> Result<(), AllocError>
-    ensures bytes { Appends out.old.items out.new.items (command_lines (in_counts sides.now) (state_of R.Representation.means scripted.old.plan) command) result }
-    ensures leads { state_of R.Representation.means scripted.new.plan ≡ state_after (state_of R.Representation.means scripted.old.plan) command }
+    ensures bytes { Appends out.old.items out.new.items (command_lines (in_counts sides.now) (state_of scripted.old.plan) command) result }
+    ensures leads { state_of scripted.new.plan ≡ state_after (state_of scripted.old.plan) command }
 {
     match command {
         Command::Change(wanted) => {
@@ -58,7 +58,7 @@ fn run_script<R: Representation>(
     sheet: &[u8],
     start: Place,
 ) -> Result<(), AllocError>
-    ensures { Appends out.old.items out.new.items (lines_from sheet.now (in_counts sides.now) (length sheet.now) start (state_of R.Representation.means scripted.old.plan)) result }
+    ensures { Appends out.old.items out.new.items (lines_from sheet.now (in_counts sides.now) (length sheet.now) start (state_of scripted.old.plan)) result }
 {
     let mut at = start;
     // Reading tells where the next line is, so there is nothing to count.

@@ -3,6 +3,7 @@ ghost use Rattle.listing.specs.Deciding.{AtHand, Does};
 ghost use Rattle.planner.specs.States.{state_of};
 ghost use Rattle.std.specs.Prelude.{◌≡◌, IsOk};
 
+use lengths::{Counted, OneKind};
 use planner::{Decision, Plan, Undecided};
 use plans::{Change, PlanChangeRefusal, TrialRefusal};
 use representations::Representation;
@@ -22,25 +23,25 @@ fn ended(answer: Result<(), Undecided>)
 pub(crate) struct Scripted<R: Representation> {
     pub plan: Plan<R>,
     hand: Option<Decision>,
-    ghost at_hand: { AtHand hand (state_of R.Representation.means plan) },
+    ghost at_hand: { AtHand hand (state_of plan) },
 }
 
 impl<R: Representation> Scripted<R> {
     ghost use Rattle.plans.specs.Model.{made_of, model_change, model_keep, model_undo};
 
-    // A plan over a representation as it is.
+    // A plan over a representation as it is, under the law of runs that pack in counted lengths.
     pub fn new(representation: R) -> Scripted<R>
-        ensures { state_of R.Representation.means result.plan ≡ made_of (R.Representation.means representation) }
+        ensures { state_of result.plan ≡ made_of (R.Representation.means representation) }
     {
         Scripted {
-            plan: Plan::new(representation),
+            plan: Plan::over::<OneKind<Counted>>(representation),
             hand: None,
         }
     }
 
     // Makes a change on trial and takes its decision to hand.
     pub fn change(&mut self, wanted: Change) -> Result<(), PlanChangeRefusal>
-        ensures { Does (model_change (state_of R.Representation.means self.old.plan) wanted) result (state_of R.Representation.means self.new.plan) }
+        ensures { Does (model_change (state_of self.old.plan) wanted) result (state_of self.new.plan) }
     {
         let decision = self.plan.change(wanted)?;
         // No `unwrap` here either: what stood at hand would be a decision.
@@ -52,7 +53,7 @@ impl<R: Representation> Scripted<R> {
 
     // Keeps the change on trial, if there is one.
     pub fn keep(&mut self) -> Result<(), TrialRefusal>
-        ensures { Does (model_keep (state_of R.Representation.means self.old.plan)) result (state_of R.Representation.means self.new.plan) }
+        ensures { Does (model_keep (state_of self.old.plan)) result (state_of self.new.plan) }
     {
         let decision = self.hand.take().ok_or(TrialRefusal::NoTrial)?;
         ended(self.plan.keep(decision));
@@ -61,7 +62,7 @@ impl<R: Representation> Scripted<R> {
 
     // Undoes the change on trial, if there is one.
     pub fn undo(&mut self) -> Result<(), TrialRefusal>
-        ensures { Does (model_undo (state_of R.Representation.means self.old.plan)) result (state_of R.Representation.means self.new.plan) }
+        ensures { Does (model_undo (state_of self.old.plan)) result (state_of self.new.plan) }
     {
         let decision = self.hand.take().ok_or(TrialRefusal::NoTrial)?;
         ended(self.plan.undo(decision));
@@ -70,7 +71,7 @@ impl<R: Representation> Scripted<R> {
 
     // Undoes a trial that is still open, and gives the plan.
     pub fn close(self) -> Plan<R>
-        ensures { state_of R.Representation.means result ≡ (model_undo (state_of R.Representation.means self.plan)).state }
+        ensures { state_of result ≡ (model_undo (state_of self.plan)).state }
     {
         let Scripted { mut plan, hand } = self;
         if let Some(last) = hand {

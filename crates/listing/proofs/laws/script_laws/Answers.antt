@@ -7,22 +7,22 @@ use Rattle.listing.specs.PackLines.{unplaced}
 use Rattle.listing.specs.PrintedPackings.{PrintedPackings}
 use Rattle.plans.proofs.CarriedPackings.{packs_carried, long_carries}
 use Rattle.plans.proofs.KindLaws.{join_laws, counted_lawful}
-use Rattle.plans.proofs.ModelLaw.{step_keeps}
+use Rattle.plans.proofs.ModelLaw.{act_keeps}
 use Rattle.plans.proofs.PackingAnswers.{pack_answers}
+use Rattle.plans.specs.Calls.{change, keep, undo}
 use Rattle.plans.specs.CarriedPackings.{carry_task, carry_placed}
 use Rattle.plans.specs.Kinds.{plain_kind, counted_kind}
 use Rattle.plans.specs.Model.{State, task_at}
 use Rattle.plans.specs.ModelLaw.{FeasibleState}
 use Rattle.plans.specs.PackingCalls.{after_pack}
-use Rattle.plans.specs.Runs.{change, keep, undo}
 use Rattle.sheets.specs.declared.command.Command.{Command}
 use Rattle.sheets.specs.declared.command.Command.TheVariants as commands
 use Rattle.std.proofs.Common.{replicate, sym, ap, ◌∙◌}
 
 stays_feasible : (s : State) (c : Command) → FeasibleState s → FeasibleState (state_after s c)
-stays_feasible s (commands.Change c) f = step_keeps s (change c) f
-stays_feasible s commands.Keep f = step_keeps s keep f
-stays_feasible s commands.Undo f = step_keeps s undo f
+stays_feasible s (commands.Change c) f = act_keeps s (change c) f
+stays_feasible s commands.Keep f = act_keeps s keep f
+stays_feasible s commands.Undo f = act_keeps s undo f
 stays_feasible s commands.Pack f = f
 
 packings : PrintedPackings

@@ -28,11 +28,11 @@ listed s sides nowhere after answer is packs =
 
 pub returns-in-Ok : goal.returns-in-Ok
 returns-in-Ok g c =
-    let state = state_of g.R.Representation.means c.args.plan.now in
+    let state = state_of c.args.plan.now in
     let after = c.pack-packed.new.results in
     let at_zero = ap (carry_placed count_of) c.unplaced-results.ensures in
     let before = replicate 64 c.unplaced-results.result in
-    let packs = subst (λ r. Packs counted_lengths (task_at state c.args.sides.now) before r after) c.in-Ok.is c.pack-packed.ensures.outcome in
+    let packs = subst (λ r. Packs counted_lengths (task_at state c.args.sides.now) before r after) c.in-Ok.is c.pack-packed.ensures.model in
     let lines = listed state c.args.sides.now c.unplaced-results.result after (Ok c.in-Ok.chip) at_zero packs in
     let few : c.modules.result ≤ length after = search rules in
     let front = front_packed after c.modules.result (carry_chip count_of c.in-Ok.chip) few in
@@ -40,10 +40,10 @@ returns-in-Ok g c =
 
 pub returns-in-Err : goal.returns-in-Err
 returns-in-Err g c =
-    let state = state_of g.R.Representation.means c.args.plan.now in
+    let state = state_of c.args.plan.now in
     let after = c.pack-packed.new.results in
     let at_zero = ap (carry_placed count_of) c.unplaced-results.ensures in
     let before = replicate 64 c.unplaced-results.result in
-    let packs = subst (λ r. Packs counted_lengths (task_at state c.args.sides.now) before r after) c.in-Err.is c.pack-packed.ensures.outcome in
+    let packs = subst (λ r. Packs counted_lengths (task_at state c.args.sides.now) before r after) c.in-Err.is c.pack-packed.ensures.model in
     let lines = listed state c.args.sides.now c.unplaced-results.result after (Err c.in-Err.field-0) at_zero packs in
     search (rules, append_assoc, lines)

@@ -22,7 +22,7 @@ loop-line-preserved g c =
     let sheet = c.args.sheet.now in
     let sides = in_counts c.args.sides.now in
     let line = c.in-Ok-Some.line in
-    let state = state_of g.R.Representation.means c.loop-line.scripted.plan in
+    let state = state_of c.loop-line.scripted.plan in
     let listed = line_listed c.args.sheet c.loop-line.at sides state line inv.0 (subst (λ r. ReadsLine c.args.sheet c.loop-line.at (Ok r)) c.in-Ok-Some.field-0-is c.in-Ok-Some.ensures.answer) inv.1 in
     let did = c.in_ok-run_command-in-Ok-Some.ensures in (
       listed.0,
@@ -34,14 +34,14 @@ loop-line-preserved g c =
 pub returns-in-Ok-None : goal.returns-in-Ok-None
 returns-in-Ok-None g c =
     let inv = c.loop-line.invariant in
-    let state = state_of g.R.Representation.means c.loop-line.scripted.plan in
+    let state = state_of c.loop-line.scripted.plan in
     let ended = end_listed c.args.sheet c.loop-line.at (in_counts c.args.sides.now) state inv.0 (subst (λ r. ReadsLine c.args.sheet c.loop-line.at (Ok r)) c.in-Ok-None.field-0-is c.in-Ok-None.ensures.answer) in
     sym (append-nil (vec_items c.loop-line.out)) ∙ ap (λ xs. vec_items c.loop-line.out ++ xs) (sym ended) ∙ inv.2
 
 pub returns-in-Err : goal.returns-in-Err
 returns-in-Err g c =
     let inv = c.loop-line.invariant in
-    let state = state_of g.R.Representation.means c.loop-line.scripted.plan in
+    let state = state_of c.loop-line.scripted.plan in
     let stopped = fault_listed_last c.args.sheet c.loop-line.at (in_counts c.args.sides.now) state c.in-Err.fault inv.0 c.in-Err.ensures.answer inv.1 in
     appended_last c.append_fault.result (vec_items c.args.out.now) (vec_items c.loop-line.out) (vec_items c.append_fault.new.out) (fault_line c.in-Err.fault.wrong c.in-Err.fault.sheet c.in-Err.fault.line c.in-Err.fault.column)
-    (lines_from c.args.sheet.now (in_counts c.args.sides.now) (length c.args.sheet.now) c.args.start (state_of g.R.Representation.means c.args.scripted.now.plan)) (ap (λ xs. vec_items c.loop-line.out ++ xs) (sym stopped) ∙ inv.2) c.append_fault.ensures
+    (lines_from c.args.sheet.now (in_counts c.args.sides.now) (length c.args.sheet.now) c.args.start (state_of c.args.scripted.now.plan)) (ap (λ xs. vec_items c.loop-line.out ++ xs) (sym stopped) ∙ inv.2) c.append_fault.ensures

@@ -9,9 +9,9 @@ abbrev pub invariant-loop-line : goal.invariant-loop-line
 invariant-loop-line g l =
     (n : ℕ)
     × (length l.sheet ≤ l.at.offset + n)
-    × (vec_items l.out ++ lines_from l.sheet (in_counts l.sides) n l.at (state_of g.R.Representation.means l.scripted.plan)
+    × (vec_items l.out ++ lines_from l.sheet (in_counts l.sides) n l.at (state_of l.scripted.plan)
     ≡ vec_items l.initial.out
-    ++ lines_from l.sheet (in_counts l.sides) (length l.sheet) l.initial.at (state_of g.R.Representation.means l.initial.scripted.plan))
+    ++ lines_from l.sheet (in_counts l.sides) (length l.sheet) l.initial.at (state_of l.initial.scripted.plan))
 
 abbrev pub decreases-loop-line : goal.decreases-loop-line
 decreases-loop-line g l = length l.sheet - l.at.offset
