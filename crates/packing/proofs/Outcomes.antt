@@ -9,10 +9,10 @@ use Rattle.plans.proofs.LeastPlacements.{no_pins_near}
 use Rattle.plans.proofs.PackRefusals.{not_refused_packable, not_refused_pinned, not_refused_rotated}
 use Rattle.plans.proofs.PackingAnswers.{pack_answers, pinned_answers, rotated_answers, pack_paths, rotated_paths}
 use Rattle.plans.specs.Kinds.{Kind, Lawful}
-use Rattle.plans.specs.Packing.{Task, Pins, no_pins, packed_module, packed_chip, packed_list}
+use Rattle.plans.specs.Packing.{Task, Pins, no_pins, packed_module, packed_chip, packed_list, rotated_task}
 use Rattle.plans.specs.PackingAnswers.{ShowsChip, ShowsPaths, TellsPinned}
 use Rattle.plans.specs.PackingCalls.{Outcome, pack_refusal, pin_refusal, rotation_refusal, no_place, refused_or, packed_outcome, after_pack, after_pack_pinned, after_pack_rotated}
-use Rattle.plans.specs.PackingTheorems.{NearPins, rotated_task}
+use Rattle.plans.specs.PackingTheorems.{NearPins}
 use Rattle.plans.specs.Tables.{Floorplan, Feasible}
 use Rattle.plans.specs.declared.measures.Chip.{Chip}
 use Rattle.plans.specs.declared.measures.Placed.{Placed}

@@ -1,10 +1,9 @@
 -- What the three packing calls promise: answer and list are those of the definitions, and what they show.
 use Rattle.std.specs.Prelude.{◌≡◌, ℕ, List, Some, None, Ok, Err, Option, Result}
 use Rattle.plans.specs.Kinds.{Kind}
-use Rattle.plans.specs.Packing.{Task}
+use Rattle.plans.specs.Packing.{Task, rotated_task}
 use Rattle.plans.specs.PackingAnswers.{ShowsChip, ShowsPaths, TellsPinned}
 use Rattle.plans.specs.PackingCalls.{Outcome, after_pack, after_pack_pinned, after_pack_rotated}
-use Rattle.plans.specs.PackingTheorems.{rotated_task}
 use Rattle.plans.specs.declared.measures.Placed.{Placed}
 use Rattle.plans.specs.declared.measures.Chip.{Chip}
 use Rattle.plans.specs.declared.pack_refusals.PackRefusal.{PackRefusal}

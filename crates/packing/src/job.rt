@@ -14,7 +14,7 @@ pub struct Job<'a, R, L> {
 }
 
 impl<'a, R: Representation, L: Length> Job<'a, R, L> {
-    ghost use Rattle.plans.specs.PackingTheorems.{rotated_task};
+    ghost use Rattle.plans.specs.Packing.{rotated_task};
     ghost use Rattle.packing.specs.Calls.{Packs, PacksPinned, PacksRotated, ShowsPacking, ShowsLongest, ShowsPinned};
     ghost use Rattle.packing.specs.Tasks.{task_of};
 

@@ -1,7 +1,7 @@
 // Packings of a plan, in any kind of length; they leave the plan.
 ghost use Rattle.packing.specs.Calls.{ShowsPacking, ShowsLongest, ShowsPinned};
 ghost use Rattle.plans.specs.Model.{task_at};
-ghost use Rattle.plans.specs.PackingTheorems.{rotated_task};
+ghost use Rattle.plans.specs.Packing.{rotated_task};
 ghost use Rattle.planner.specs.Calls.{PacksPlan, PacksPlanPinned, PacksPlanRotated};
 ghost use Rattle.planner.specs.States.{state_of};
 

@@ -1,4 +1,4 @@
--- What a change that is not refused tells of its modules.
+-- What nothing refused tells, and what a change that is not refused tells of its modules.
 use Rattle.std.proofs.Common.{◌≡◌, ℕ, ◌<◌, Bool, true, false, ◌&&◌, ◌||◌, eqb, leb, ◌≢◌, Some, None, Option, sym, refl, ◌∙◌, arith}
 use Rattle.std.proofs.lemmas.Bool.{true≢false, leb-false, eqb-false, eq-eqb, or_parts}
 use Rattle.plans.proofs.Searches.{some_from}
@@ -7,10 +7,12 @@ use Rattle.plans.specs.Search.{or_else, refusing}
 use Rattle.plans.specs.Tables.{Table, FeasibleTable}
 use Rattle.plans.specs.declared.refusals.ChangeRefusal.TheVariants.{NoModule, SameModule, NoEdge, NoReductionEdge}
 
+-- nothing refused is neither of two
 pub or_else_none : {X : Type 0} (x y : Option X) → or_else x y ≡ None → (x ≡ None) × (y ≡ None)
 or_else_none (Some x) y e = let z : ◌≡◌ {A = ℕ} 0 1 = cc in absurd (omega arith)
 or_else_none None y e = (refl, e)
 
+-- a test that refuses nothing fails
 pub refusing_none : {E : Type 0} (t : Bool) (x : E) → refusing t x ≡ None → t ≡ false
 refusing_none true x e = let z : ◌≡◌ {A = ℕ} 0 1 = cc in absurd (omega arith)
 refusing_none false x e = refl

@@ -1,8 +1,8 @@
 -- The model's loads and changes do what the words say.
-use Rattle.std.proofs.Common.{◌≡◌, ℕ, ◌↔◌, List, Some, None, Ok, Err, Option, refl, ap, ◌∙◌, sym, subst, arith}
+use Rattle.std.proofs.Common.{◌≡◌, ℕ, ◌↔◌, List, Some, None, Ok, Option, refl, arith}
 use Rattle.plans.proofs.ChangesInWords.{changes_as_told}
 use Rattle.plans.proofs.LoadLaw.{load_law}
-use Rattle.plans.specs.CallsInWords.{AdmitsPublished, ChangesEdges, StepsInWords}
+use Rattle.plans.specs.CallsInWords.{ChangesEdges, StepsInWords}
 use Rattle.plans.specs.Changes.{change_refusal, changed, unless}
 use Rattle.plans.specs.LoadLaw.{given}
 use Rattle.plans.specs.Model.{State, Layout, load_step, change_step}

@@ -9,9 +9,8 @@ use Rattle.std.proofs.lemmas.Bool.Decides.{nat_tests}
 use Rattle.plans.specs.Axes.{Axis, latest, free_edge, near_within, near_edge}
 use Rattle.plans.specs.CarriedPackings.{Carries, PacksCarried, carry_sides, carry_task, carry_pins, carry_placed, carry_chip, carry_outcome}
 use Rattle.plans.specs.Kinds.{Kind, Count, count_at_most, plain_kind, counted_kind, possible_side}
-use Rattle.plans.specs.Packing.{Task, Pins, no_sides, no_pins, side_along, side_of, next_of, axis_of, far_of, span_of, packed_edge, packed_module, packed_chip, packed_list}
+use Rattle.plans.specs.Packing.{Task, Pins, no_sides, no_pins, side_along, side_of, next_of, axis_of, far_of, span_of, packed_edge, packed_module, packed_chip, packed_list, rotated_task}
 use Rattle.plans.specs.PackingCalls.{wrong_side, pack_refusal, refused_or, packed_outcome, rotation_refusal}
-use Rattle.plans.specs.PackingTheorems.{rotated_task}
 use Rattle.plans.specs.Search.{first_below, or_else, refusing}
 use Rattle.plans.specs.declared.measures.Sides.{Sides}
 use Rattle.plans.specs.declared.measures.Placed.{Placed}

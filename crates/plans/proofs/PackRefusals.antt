@@ -1,8 +1,9 @@
 -- What is known of a packing that is not refused.
-use Rattle.std.proofs.Common.{◌≡◌, ℕ, ◌<◌, ◌≤◌, Bool, true, false, not, ◌||◌, eqb, ltb, leb, List, length, Some, None, Option, refl, arith}
+use Rattle.std.proofs.Common.{◌≡◌, ℕ, ◌<◌, ◌≤◌, not, ◌||◌, eqb, ltb, leb, List, length, Some, None, Option, refl, arith}
 use Rattle.std.specs.Option.{option_map}
 use Rattle.std.proofs.lemmas.Bool.{not-false, eqb-true, or_parts, ltb-false, leb-false}
 use Rattle.std.proofs.lemmas.Bool.Decides.{nat_tests}
+use Rattle.plans.proofs.Accepted.{or_else_none, refusing_none}
 use Rattle.plans.proofs.Searches.{first_tells}
 use Rattle.plans.specs.First.{IsFirst}
 use Rattle.plans.specs.Kinds.{Kind, pin_limit}
@@ -15,16 +16,6 @@ use Rattle.plans.specs.declared.measures.Placed.{Placed}
 use Rattle.plans.specs.declared.pack_refusals.PackRefusal.TheVariants.{WrongSides, ShortResults, WrongSide}
 use Rattle.plans.specs.declared.pack_refusals.PinnedRefusal.TheVariants as pinned
 use Rattle.plans.specs.declared.pack_refusals.RotationRefusal.TheVariants as rotation
-
--- neither of two refusals
-pub neither_refused : {E : Type 0} (a b : Option E) → or_else a b ≡ None → (a ≡ None) × (b ≡ None)
-neither_refused (Some e) b h = let z : ◌≡◌ {A = ℕ} 0 1 = cc in absurd (omega arith)
-neither_refused None b h = (refl, h)
-
--- a test that refuses nothing fails
-pub not_refusing : {E : Type 0} (test : Bool) (e : E) → refusing test e ≡ None → test ≡ false
-not_refusing true e h = let z : ◌≡◌ {A = ℕ} 0 1 = cc in absurd (omega arith)
-not_refusing false e h = refl
 
 -- nothing told is nothing found
 pub not_told : {X E : Type 0} (f : X → E) (o : Option X) → option_map f o ≡ None → o ≡ None
@@ -40,10 +31,10 @@ module _ {L : Type 0} (K : Kind L) (t : Task L) (results : List (Placed L)) wher
       let wrong = first_below size (wrong_side K t.sides) in
       let sides = refusing (not (eqb (length t.sides) size)) WrongSides in
       let short = refusing (ltb (length results) size) ShortResults in
-      let first = neither_refused sides (or_else short (option_map WrongSide wrong)) none in
-      let rest = neither_refused short (option_map WrongSide wrong) first.1 in
-      let listed = not_refusing (not (eqb (length t.sides) size)) WrongSides first.0 in
-      let room = not_refusing (ltb (length results) size) ShortResults rest.0 in
+      let first = or_else_none sides (or_else short (option_map WrongSide wrong)) none in
+      let rest = or_else_none short (option_map WrongSide wrong) first.1 in
+      let listed = refusing_none (not (eqb (length t.sides) size)) WrongSides first.0 in
+      let room = refusing_none (ltb (length results) size) ShortResults rest.0 in
       let found : wrong ≡ None = not_told WrongSide wrong rest.1 in
       let possible : IsFirst (wrong_side K t.sides) size None = rw found at (first_tells (wrong_side K t.sides) size) in (
         record {
@@ -62,13 +53,13 @@ module _ {L : Type 0} (K : Kind L) (t : Task L) (results : List (Placed L)) wher
       let far = ltb pin_limit (K.reach across) || ltb pin_limit (K.reach up) in
       let packing = option_map pinned.Packing (pack_refusal K t results) in
       let number = refusing (leb t.plan.size a) pinned.NoModule in
-      let first = neither_refused packing (or_else number (refusing far pinned.FarPin)) none in
-      let rest = neither_refused number (refusing far pinned.FarPin) first.1 in
-      let near = or_parts (ltb pin_limit (K.reach across)) (ltb pin_limit (K.reach up)) (not_refusing far pinned.FarPin rest.1) in
+      let first = or_else_none packing (or_else number (refusing far pinned.FarPin)) none in
+      let rest = or_else_none number (refusing far pinned.FarPin) first.1 in
+      let near = or_parts (ltb pin_limit (K.reach across)) (ltb pin_limit (K.reach up)) (refusing_none far pinned.FarPin rest.1) in
       let near_across = ltb-false pin_limit (K.reach across) near.0 in
       let near_up = ltb-false pin_limit (K.reach up) near.1 in (
         not_told pinned.Packing (pack_refusal K t results) first.0,
-        leb-false t.plan.size a (not_refusing (leb t.plan.size a) pinned.NoModule rest.0),
+        leb-false t.plan.size a (refusing_none (leb t.plan.size a) pinned.NoModule rest.0),
         λ g i v e. pin_near a across up g i v e near_across near_up,
       )
     where
@@ -82,7 +73,7 @@ module _ {L : Type 0} (K : Kind L) (t : Task L) (results : List (Placed L)) wher
       (a : ℕ) → rotation_refusal K t results a ≡ None → (pack_refusal K t results ≡ None) × (a < t.plan.size)
   not_refused_rotated a none =
       let packing = option_map rotation.Packing (pack_refusal K t results) in
-      let first = neither_refused packing (refusing (leb t.plan.size a) rotation.NoModule) none in (
+      let first = or_else_none packing (refusing (leb t.plan.size a) rotation.NoModule) none in (
         not_told rotation.Packing (pack_refusal K t results) first.0,
-        leb-false t.plan.size a (not_refusing (leb t.plan.size a) rotation.NoModule first.1),
+        leb-false t.plan.size a (refusing_none (leb t.plan.size a) rotation.NoModule first.1),
       )

@@ -9,10 +9,10 @@ use Rattle.plans.proofs.PackRefusals.{not_refused_packable, not_refused_pinned, 
 use Rattle.plans.proofs.PackingLaws.{pack_law, pinned_law, rotated_law}
 use Rattle.plans.specs.Kinds.{Kind, SumLaws, JoinLaws, pin_limit}
 use Rattle.plans.specs.LaterOfTwo.{LaterLaws}
-use Rattle.plans.specs.Packing.{Task, Pins, no_pins, one_pin, packed_module, packed_list}
+use Rattle.plans.specs.Packing.{Task, Pins, no_pins, one_pin, packed_module, packed_list, rotated_task}
 use Rattle.plans.specs.PackingAnswers.{ShowsPlacement, ShowsLeast, ListsLongest, ShowsChip, ShowsPaths, TellsPinned}
 use Rattle.plans.specs.PackingCalls.{Outcome, pack_refusal, pin_refusal, rotation_refusal, no_place, refused_or, packed_outcome, after_pack, after_pack_pinned, after_pack_rotated}
-use Rattle.plans.specs.PackingTheorems.{Packable, packed_placement, rotated_task}
+use Rattle.plans.specs.PackingTheorems.{Packable, packed_placement}
 use Rattle.plans.specs.Placements.{LeastPlacement}
 use Rattle.plans.specs.Search.{or_else, refusing}
 use Rattle.plans.specs.Tables.{Feasible}

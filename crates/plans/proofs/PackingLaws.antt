@@ -3,9 +3,9 @@ use Rattle.std.proofs.Common.{◌≡◌, ℕ, List, None}
 use Rattle.plans.proofs.LeastPlacements.{packed_plan, packed_freely}
 use Rattle.plans.proofs.PackRefusals.{not_refused_packable, not_refused_pinned, not_refused_rotated}
 use Rattle.plans.specs.Kinds.{Kind, SumLaws, JoinLaws}
-use Rattle.plans.specs.Packing.{Task, one_pin}
+use Rattle.plans.specs.Packing.{Task, one_pin, rotated_task}
 use Rattle.plans.specs.PackingCalls.{pack_refusal, pin_refusal, rotation_refusal}
-use Rattle.plans.specs.PackingTheorems.{PackedPlan, PackedFreely, rotated_task}
+use Rattle.plans.specs.PackingTheorems.{PackedPlan, PackedFreely}
 use Rattle.plans.specs.Tables.{Feasible}
 use Rattle.plans.specs.declared.measures.Placed.{Placed}
 

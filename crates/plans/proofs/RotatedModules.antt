@@ -1,9 +1,10 @@
 -- Calls leave rotated only what are modules.
-use Rattle.std.proofs.Common.{◌≡◌, ℕ, ◌≤◌, Bool, false, not, eqb, leb, List, [], ◌∷◌, Some, None, Ok, Err, Option, Result, unwrap_or, refl, ap, subst, arith}
+use Rattle.std.proofs.Common.{◌≡◌, ℕ, leb, List, [], ◌∷◌, Some, None, Ok, Err, Option, Result, unwrap_or, refl, ap, subst, arith}
 use Rattle.std.proofs.lemmas.Bool.Decides.{nat_tests}
+use Rattle.plans.proofs.Accepted.{refusing_none}
 use Rattle.plans.specs.Calls.{Act, load, change, keep, undo, Call, acts, packs, asks}
-use Rattle.plans.specs.Changes.{change_refusal, changed, unless, after_load, after_change}
-use Rattle.plans.specs.Model.{State, Layout, made_of, rotated_after, load_step, change_step, keep_step, undo_step, layout_after}
+use Rattle.plans.specs.Changes.{change_refusal, changed, unless, after_load}
+use Rattle.plans.specs.Model.{State, Layout, made_of, load_step, change_step, keep_step, undo_step, layout_after}
 use Rattle.plans.specs.ModelLaw.{RotatesModules, NotedRotates, RotatesWithin, RunsRotate}
 use Rattle.plans.specs.ModelRuns.{model_act, after_call, after_calls}
 use Rattle.plans.specs.Tables.{Floorplan}
@@ -11,7 +12,6 @@ use Rattle.plans.specs.declared.change.Change.{Change}
 use Rattle.plans.specs.declared.change.Change.TheVariants.{Rotate, Swap, Reverse, MoveEdge}
 use Rattle.plans.specs.declared.refusals.ChangeRefusal.{ChangeRefusal}
 use Rattle.plans.specs.declared.refusals.LoadRefusal.{LoadRefusal}
-use Rattle.plans.proofs.PackRefusals.{not_refusing}
 use Rattle.plans.specs.declared.refusals.ChangeRefusal.TheVariants.{NoModule}
 
 -- an accepted change rotates only a module, and leaves how many there are
@@ -19,7 +19,7 @@ changed_rotates :
     (l : Layout) (c : Change) → change_refusal l.plan c ≡ None → RotatesModules l
     → RotatesModules (layout_after l c (changed l.plan c))
 changed_rotates l (Rotate a) none r i beyond =
-    let within = not_refusing (leb l.plan.size a) NoModule none in
+    let within = refusing_none (leb l.plan.size a) NoModule none in
     let kept = r i beyond in
     grind (arith, nat_tests)
 changed_rotates l (Swap a b) none r i beyond = r i beyond

@@ -9,7 +9,6 @@ use Rattle.plans.specs.Accounts.{new_account, accounted}
 use Rattle.plans.specs.Calls.{Packing, pack, pack_pinned, pack_with_rotation, PackingOutcome, Call, packs, Told, calls_of}
 use Rattle.plans.specs.Kinds.{Kind, Lawful}
 use Rattle.plans.specs.Model.{State, made_of, task_at}
-use Rattle.plans.specs.ModelLaw.{FeasibleState}
 use Rattle.plans.specs.ModelRuns.{model_packing, after_call, after_calls, model_answer, model_told}
 use Rattle.plans.specs.RunKept.{PackingKept, RunKept, ModelKeeps}
 use Rattle.plans.specs.Tables.{Floorplan, Feasible}

@@ -1,5 +1,5 @@
 -- What loads and changes of a plan do, in the words of the subject.
-use Rattle.std.specs.Prelude.{◌≡◌, ℕ, ◌↔◌, List, true, is_ok, None, Ok, Result}
+use Rattle.std.specs.Prelude.{◌≡◌, ℕ, ◌↔◌, List, None, Ok, Result}
 use Rattle.plans.specs.ChangesInWords.{ChangeWords}
 use Rattle.plans.specs.LoadLaw.{given}
 use Rattle.plans.specs.Model.{State, model_load, model_change}

@@ -30,6 +30,10 @@ one_pin a across up g i = cond (i == a) (Some (cond (g == 1) across up)) None
 abbrev pub rotated_once : (ℕ → Bool) → ℕ → ℕ → Bool
 rotated_once rotated a i = cond (i == a) (not (rotated i)) (rotated i)
 
+-- the task with one module rotated once more
+abbrev pub rotated_task : {L : Type 0} → Task L → ℕ → Task L
+rotated_task t a = record t { rotated = rotated_once t.rotated a }
+
 -- the side along the axis of graph g: the width across and the height upwards, exchanged where rotated
 abbrev pub side_along : {L : Type 0} → ℕ → Bool → Sides L → L
 side_along g rotated s =

@@ -2,9 +2,8 @@
 use Rattle.std.specs.Prelude.{◌≡◌, ℕ, ◌<◌, ◌≤◌, List, length, None, Ok, Err, slice_index_or}
 use Rattle.plans.specs.Kinds.{Kind, SumLaws, JoinLaws}
 use Rattle.plans.specs.LaterOfTwo.{LaterLaws}
-use Rattle.plans.specs.Packing.{Task, Pins, no_pins, one_pin, far_of, chip_of}
+use Rattle.plans.specs.Packing.{Task, Pins, no_pins, one_pin, far_of, chip_of, rotated_task}
 use Rattle.plans.specs.PackingCalls.{Outcome, pin_refusal, after_pack, after_pack_pinned, after_pack_rotated}
-use Rattle.plans.specs.PackingTheorems.{rotated_task}
 use Rattle.plans.specs.Placements.{Placement, LeastPlacement, NoPlacement, ByLongestPaths}
 use Rattle.plans.specs.Tables.{Feasible}
 use Rattle.plans.specs.declared.measures.Placed.{Placed}

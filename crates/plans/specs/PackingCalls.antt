@@ -3,7 +3,7 @@ use Rattle.std.specs.Prelude.{ℕ, Bool, cond, not, ◌&&◌, ◌||◌, List, le
 use Rattle.std.specs.Option.{option_map}
 use Rattle.plans.specs.Axes.{stuck}
 use Rattle.plans.specs.Kinds.{Kind, possible_side, pin_limit}
-use Rattle.plans.specs.Packing.{Task, Pins, no_sides, no_pins, one_pin, rotated_once, axis_of, packed_chip, packed_list}
+use Rattle.plans.specs.Packing.{Task, Pins, no_sides, no_pins, one_pin, rotated_task, axis_of, packed_chip, packed_list}
 use Rattle.plans.specs.Search.{first_below, or_else, refusing}
 use Rattle.plans.specs.declared.measures.Sides.{Sides}
 use Rattle.plans.specs.declared.measures.Placed.{Placed}
@@ -76,5 +76,4 @@ module _ {L : Type 0} (K : Kind L) where
   -- pack as if module a were rotated once more
   abbrev pub after_pack_rotated : Task L → List (Placed L) → ℕ → Outcome L RotationRefusal
   after_pack_rotated t results a =
-      let looked : Task L = record { plan = t.plan; rotated = rotated_once t.rotated a; sides = t.sides } in
-      refused_or (rotation_refusal t results a) results (packed_outcome looked no_pins results)
+      refused_or (rotation_refusal t results a) results (packed_outcome (rotated_task t a) no_pins results)

@@ -2,16 +2,12 @@
 use Rattle.std.specs.Prelude.{◌≡◌, ℕ, ◌+◌, ◌*◌, ◌<◌, ◌≤◌, true, false, List, length, Some, None}
 use Rattle.plans.specs.Kinds.{Kind, SumLaws, JoinLaws, side_limit, pin_limit, sum_limit}
 use Rattle.plans.specs.LaterOfTwo.{LaterLaws}
-use Rattle.plans.specs.Packing.{Task, Pins, no_pins, one_pin, rotated_once, side_of, axis_of, span_of, packed_edge}
+use Rattle.plans.specs.Packing.{Task, Pins, no_pins, one_pin, rotated_task, side_of, axis_of, span_of, packed_edge}
 use Rattle.plans.specs.PackingCalls.{wrong_side, pack_refusal, pin_refusal, rotation_refusal, no_place}
 use Rattle.plans.specs.Placements.{Placement, EndsWithin, InsideAlong, LeastPlacement, NoPlacement, ByLongestPaths}
 use Rattle.plans.specs.Sequences.{count_before}
 use Rattle.plans.specs.Tables.{Feasible}
 use Rattle.plans.specs.declared.measures.Placed.{Placed}
-
--- the task with one module rotated once more
-abbrev pub rotated_task : {L : Type 0} → Task L → ℕ → Task L
-rotated_task t a = record { plan = t.plan; rotated = rotated_once t.rotated a; sides = t.sides }
 
 module _ {L : Type 0} (K : Kind L) where
   -- a feasible floorplan with two possible sides for each module

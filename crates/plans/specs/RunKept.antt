@@ -6,7 +6,7 @@ use Rattle.plans.specs.Kinds.{Kind, Lawful}
 use Rattle.plans.specs.Model.{State, made_of, task_at}
 use Rattle.plans.specs.ModelRuns.{after_calls, model_told}
 use Rattle.plans.specs.PackingAnswers.{ShowsChip, TellsPinned}
-use Rattle.plans.specs.PackingTheorems.{rotated_task}
+use Rattle.plans.specs.Packing.{rotated_task}
 use Rattle.plans.specs.Published.{Published}
 use Rattle.plans.specs.Tables.{Floorplan, Feasible}
 

@@ -2,7 +2,7 @@
 use Rattle.std.proofs.Common.{subst}
 use Rattle.packing.specs.Calls.{PacksRotated, ShowsPacking, ShowsLongest}
 use Rattle.plans.specs.Model.{task_at}
-use Rattle.plans.specs.PackingTheorems.{rotated_task}
+use Rattle.plans.specs.Packing.{rotated_task}
 use Rattle.planner.specs.States.{state_of}
 use Rattle.planner.proofs.plan.Plan.pack_with_rotation.Goals as goal
 
