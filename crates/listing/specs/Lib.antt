@@ -12,3 +12,4 @@ pub mod Bordered
 pub mod ScriptLaw
 pub mod PrintedPackings
 pub mod WorkedListing
+pub mod LawOfRuns

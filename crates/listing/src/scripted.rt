@@ -1,5 +1,7 @@
 // A plan under the commands of a script: the call that each makes, with the decision on an open trial kept at hand.
-ghost use Rattle.listing.specs.Deciding.{AtHand, Does};
+ghost use Rattle.listing.specs.Deciding.{AtHand};
+ghost use Rattle.listing.specs.LawOfRuns.{CountedRuns};
+ghost use Rattle.planner.specs.Calls.{Steps};
 ghost use Rattle.planner.specs.States.{state_of};
 ghost use Rattle.std.specs.Prelude.{◌≡◌, IsOk};
 
@@ -31,7 +33,8 @@ impl<R: Representation> Scripted<R> {
 
     // A plan over a representation as it is, under the law of runs that pack in counted lengths.
     pub fn new(representation: R) -> Scripted<R>
-        ensures { state_of result.plan ≡ made_of (R.Representation.means representation) }
+        ensures made { state_of result.plan ≡ made_of (R.Representation.means representation) }
+        ensures law { CountedRuns (R.Representation.means representation) result.plan }
     {
         Scripted {
             plan: Plan::over::<OneKind<Counted>>(representation),
@@ -41,7 +44,7 @@ impl<R: Representation> Scripted<R> {
 
     // Makes a change on trial and takes its decision to hand.
     pub fn change(&mut self, wanted: Change) -> Result<(), PlanChangeRefusal>
-        ensures { Does (model_change (state_of self.old.plan) wanted) result (state_of self.new.plan) }
+        ensures { Steps (model_change (state_of self.old.plan) wanted) (state_of self.new.plan) result }
     {
         let decision = self.plan.change(wanted)?;
         // No `unwrap` here either: what stood at hand would be a decision.
@@ -53,7 +56,7 @@ impl<R: Representation> Scripted<R> {
 
     // Keeps the change on trial, if there is one.
     pub fn keep(&mut self) -> Result<(), TrialRefusal>
-        ensures { Does (model_keep (state_of self.old.plan)) result (state_of self.new.plan) }
+        ensures { Steps (model_keep (state_of self.old.plan)) (state_of self.new.plan) result }
     {
         let decision = self.hand.take().ok_or(TrialRefusal::NoTrial)?;
         ended(self.plan.keep(decision));
@@ -62,7 +65,7 @@ impl<R: Representation> Scripted<R> {
 
     // Undoes the change on trial, if there is one.
     pub fn undo(&mut self) -> Result<(), TrialRefusal>
-        ensures { Does (model_undo (state_of self.old.plan)) result (state_of self.new.plan) }
+        ensures { Steps (model_undo (state_of self.old.plan)) (state_of self.new.plan) result }
     {
         let decision = self.hand.take().ok_or(TrialRefusal::NoTrial)?;
         ended(self.plan.undo(decision));

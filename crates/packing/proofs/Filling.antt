@@ -11,7 +11,7 @@ use Rattle.plans.specs.PackingCalls.{no_place}
 use Rattle.plans.specs.Search.{some_below}
 use Rattle.plans.specs.declared.measures.Placed.{Placed}
 use Rattle.packing.proofs.OneModule.{module_places}
-use Rattle.packing.specs.Steps.{Ready, Reached, at_place, pushed_at}
+use Rattle.packing.specs.Steps.{ReadyToPack, Reached, at_place, pushed_at}
 
 -- none of the numbers up to one more passes, by whether none before it does and whether it does
 pub none_more :
@@ -55,7 +55,7 @@ some_along m p at below named =
       | inr r ↦ none_from m (λ l. p (at l)) (λ k h. r.1 (at k) (below k h)) ∙ sym r.0
     ]
 
-module _ {L : Type 0} (K : Kind L) (t : Task L) (pins : Pins L) (n : ℕ) (ready : Ready K t pins n) where
+module _ {L : Type 0} (K : Kind L) (t : Task L) (pins : Pins L) (n : ℕ) (ready : ReadyToPack K t pins n) where
   -- the record of the next module is written
   pub reached_more :
       (k : ℕ) (before after : List (Placed L)) → k < t.plan.size → length before ≡ n → Reached K t pins k before after

@@ -14,7 +14,7 @@ use Rattle.plans.specs.Tables.{Floorplan, Feasible, table_in, module_at}
 use Rattle.plans.specs.declared.measures.Placed.{Placed}
 use Rattle.plans.specs.declared.measures.Sides.{Sides}
 use Rattle.packing.proofs.Corners.{onto_same}
-use Rattle.packing.specs.Steps.{Ready, FilledTo, record_at, at_place, free_corner, near_corner, pushed_at, PlacesOne}
+use Rattle.packing.specs.Steps.{ReadyToPack, FilledTo, record_at, at_place, free_corner, near_corner, pushed_at, PlacesOne}
 use Rattle.packing.specs.Corners.{next_after, corner_at_most}
 use Rattle.packing.specs.declared.pin.Corner.{Corner}
 
@@ -32,7 +32,7 @@ not_not : (b : Bool) → b ≡ not (not b)
 not_not true = refl
 not_not false = refl
 
-module _ {L : Type 0} (K : Kind L) (law : Lawful K) (t : Task L) (pins : Pins L) (n : ℕ) (ready : Ready K t pins n) where
+module _ {L : Type 0} (K : Kind L) (law : Lawful K) (t : Task L) (pins : Pins L) (n : ℕ) (ready : ReadyToPack K t pins n) where
   join : JoinLaws K
   join = join_laws K law
 

@@ -23,7 +23,7 @@ use Rattle.plans.specs.declared.pack_refusals.PinnedRefusal.TheVariants as pinne
 use Rattle.packing.proofs.Chips.{chip_packed}
 use Rattle.packing.specs.Calls.{Gives, Packs, PacksPinned, PacksRotated, PacksFreely, PacksOnceMore, ShowsPacking, ShowsLongest, ShowsPinned}
 use Rattle.packing.specs.Corners.{chip_around}
-use Rattle.packing.specs.Steps.{Ready}
+use Rattle.packing.specs.Steps.{ReadyToPack}
 use Rattle.packing.specs.Tasks.{pin_of}
 use Rattle.packing.specs.declared.pin.Pin.{Pin}
 
@@ -50,12 +50,12 @@ module _ {L : Type 0} (K : Kind L) where
   module _ (t : Task L) (before : List (Placed L)) where
     module _ (feasible : Feasible t.plan) (none : pack_refusal K t before ≡ None) where
       -- a packing that is not refused can be made
-      pub ready : (pins : Pins L) → NearPins K pins → Ready K t pins (length before)
+      pub ready : (pins : Pins L) → NearPins K pins → ReadyToPack K t pins (length before)
       ready pins close =
           let q = not_refused_packable K t before feasible none in
           record { packable = q.0; close = close; room = q.1 }
 
-      pub ready_free : Ready K t no_pins (length before)
+      pub ready_free : ReadyToPack K t no_pins (length before)
       ready_free = ready no_pins (no_pins_near K)
 
     -- the chip around a filled list
@@ -108,7 +108,7 @@ module _ {L : Type 0} (K : Kind L) (t : Task L) (before : List (Placed L)) (feas
     abbrev refusal : Option PinnedRefusal
     refusal = pin_refusal K t before p.«module» p.across p.up
 
-    pub ready_pinned : refusal ≡ None → Ready K t pins (length before)
+    pub ready_pinned : refusal ≡ None → ReadyToPack K t pins (length before)
     ready_pinned allowed =
         let q = not_refused_pinned K t before p.«module» p.across p.up allowed in
         ready K t before feasible q.0 pins q.2

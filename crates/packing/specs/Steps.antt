@@ -52,7 +52,7 @@ module _ {L : Type 0} (K : Kind L) where
 
   module _ (t : Task L) (pins : Pins L) where
     -- what can be packed into a list of this length
-    pub record Ready (long : ℕ) : Type 0 where
+    pub record ReadyToPack (long : ℕ) : Type 0 where
       pub packable : Packable K t
       pub close : NearPins K pins
       pub room : t.plan.size ≤ long
@@ -75,7 +75,7 @@ module _ {L : Type 0} (K : Kind L) where
 
     -- place k is the next to be filled
     pub record NextPlace (k : ℕ) (results : List (Placed L)) : Type 0 where
-      pub ready : Ready (length results)
+      pub ready : ReadyToPack (length results)
       pub within : k < t.plan.size
       pub filled : FilledTo k results
 

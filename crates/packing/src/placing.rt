@@ -2,7 +2,7 @@
 ghost use Rattle.std.specs.Prelude.{◌≡◌, ◌+◌, ◌<◌, ◌≤◌, length};
 ghost use Rattle.plans.specs.Kinds.{sum_limit};
 ghost use Rattle.plans.specs.Packing.{side_of};
-ghost use Rattle.packing.specs.Steps.{Ready, NextPlace, PlacesOne, PlacesAll, record_at, near_corner};
+ghost use Rattle.packing.specs.Steps.{ReadyToPack, NextPlace, PlacesOne, PlacesAll, record_at, near_corner};
 ghost use Rattle.packing.specs.Tasks.{task_of, pins_of};
 
 use crate::job::Job;
@@ -67,7 +67,7 @@ impl<'a, R: Representation, L: Length> Job<'a, R, L> {
 
     // Writes the record of every module. Whether no module is pushed past its pin.
     pub(crate) fn place_all(&self, pin: Option<Pin<L>>, results: &mut [Placed<L>]) -> bool
-        requires { Ready L.Length.kind (task_of R.Representation.means self.now) (pins_of pin) (length results.old) }
+        requires { ReadyToPack L.Length.kind (task_of R.Representation.means self.now) (pins_of pin) (length results.old) }
         ensures { PlacesAll L.Length.kind (task_of R.Representation.means self.now) (pins_of pin) results.old results.new result }
     {
         let mut fits = true;

@@ -56,16 +56,16 @@ module _ {R : Type 0} {g : Ghosts R} where
   ChangesBy before after c answer = Opens before after c (without_decision answer)
 
   -- keep, with the decision handed back where it is refused
-  abbrev pub Keeps : Plan R g → Plan R g → Result (Unit {0}) Undecided → Type 0
-  Keeps before after answer = Steps (model_keep (state_of before)) (state_of after) (without_return answer)
+  abbrev pub EndsKept : Plan R g → Plan R g → Result (Unit {0}) Undecided → Type 0
+  EndsKept before after answer = Steps (model_keep (state_of before)) (state_of after) (without_return answer)
 
   -- undo, likewise
-  abbrev pub Undoes : Plan R g → Plan R g → Result (Unit {0}) Undecided → Type 0
-  Undoes before after answer = Steps (model_undo (state_of before)) (state_of after) (without_return answer)
+  abbrev pub EndsUndone : Plan R g → Plan R g → Result (Unit {0}) Undecided → Type 0
+  EndsUndone before after answer = Steps (model_undo (state_of before)) (state_of after) (without_return answer)
 
   -- a question
-  abbrev pub Tells : Plan R g → (q : Question) → Reply q → Type 0
-  Tells now q reply = reply ≡ model_reply (state_of now) q
+  abbrev pub Replies : Plan R g → (q : Question) → Reply q → Type 0
+  Replies now q reply = reply ≡ model_reply (state_of now) q
 
   -- a packing in one kind of length, which can't change a plan that it has by a shared reference: it answers and writes
   -- what the definitions give at the plan's state

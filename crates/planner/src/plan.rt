@@ -21,8 +21,8 @@ impl<R: Representation> Plan<R> {
     ghost use Rattle.planner.specs.Calls.{Makes};
     ghost use Rattle.planner.specs.RunLaw.{RunLaw};
 
-    /// A plan over a representation as it is: no module is rotated, and no trial is open. What is told of its runs is
-    /// told by `law`.
+    /// A plan over a representation as it is: no module is rotated, and no trial is open. It comes with no law of its
+    /// runs; `plan_law` gives it, in any family of kinds.
     pub fn new(representation: R) -> Plan<R>
         ensures { Makes (R.Representation.means representation) result }
     {

@@ -1,7 +1,7 @@
 // Loads, changes on trial, and how a trial ends.
 ghost use Rattle.std.specs.Prelude.{◌≡◌, false, is_some};
 ghost use Rattle.plans.specs.CallsInWords.{AdmitsPublished, ChangesEdges, LeavesPublished};
-ghost use Rattle.planner.specs.Calls.{Loads, Opens, ChangesBy, Keeps, Undoes, without_decision};
+ghost use Rattle.planner.specs.Calls.{Loads, Opens, ChangesBy, EndsKept, EndsUndone, without_decision};
 ghost use Rattle.planner.specs.States.{state_of};
 ghost use Rattle.plans.specs.declared.change.Change.TheVariants.{Rotate, Swap, Reverse, MoveEdge};
 
@@ -100,7 +100,7 @@ impl<R: Representation> Plan<R> {
 
     /// Ends the trial and leaves its change. Without a trial the decision is handed back.
     pub fn keep(&mut self, decision: Decision) -> Result<(), Undecided>
-        ensures { Keeps self.old self.new result }
+        ensures { EndsKept self.old self.new result }
     {
         if self.trial.is_none() {
             return Err(decision.handed_back());
@@ -112,7 +112,7 @@ impl<R: Representation> Plan<R> {
 
     /// Ends the trial and restores what was current before it. Without a trial the decision is handed back.
     pub fn undo(&mut self, decision: Decision) -> Result<(), Undecided>
-        ensures { Undoes self.old self.new result }
+        ensures { EndsUndone self.old self.new result }
     {
         let Some(noted) = self.trial.take() else {
             return Err(decision.handed_back());

@@ -1,10 +1,10 @@
 -- A state that the model's calls reach is what the account of its answers gives.
 use Rattle.std.proofs.Common.{◌≡◌, ℕ, List, [], ◌∷◌, ◌++◌, is_ok, Some, None, Option, sym, refl, ap, ◌∙◌}
+use Rattle.plans.specs.Tables.{given}
 use Rattle.plans.specs.Accounts.{Account, Origin, note_if, account_from, replayed, changed_layout, origin_layout, account_state, act_before, acts_of}
 use Rattle.plans.specs.Calls.{Act, load, change, keep, undo, Acted, Call, acts, packs, asks, AnswerTo, Told, calls_of}
 use Rattle.plans.specs.Changes.{change_refusal, changed, unless}
 use Rattle.plans.specs.Kinds.{Kind}
-use Rattle.plans.specs.LoadLaw.{given}
 use Rattle.plans.specs.Model.{State, Layout, settled, load_step, change_step}
 use Rattle.plans.specs.ModelRuns.{model_act, after_call, after_calls, model_answer}
 use Rattle.plans.specs.Tests.{load_refusal}

@@ -4,10 +4,9 @@ use Rattle.plans.proofs.ChangesInWords.{changes_as_told}
 use Rattle.plans.proofs.LoadLaw.{load_law}
 use Rattle.plans.specs.CallsInWords.{ChangesEdges, StepsInWords}
 use Rattle.plans.specs.Changes.{change_refusal, changed, unless}
-use Rattle.plans.specs.LoadLaw.{given}
 use Rattle.plans.specs.Model.{State, Layout, load_step, change_step}
 use Rattle.plans.specs.Published.{Published}
-use Rattle.plans.specs.Tables.{Feasible}
+use Rattle.plans.specs.Tables.{Feasible, given}
 use Rattle.plans.specs.Tests.{load_refusal}
 use Rattle.plans.specs.declared.change.Change.{Change}
 use Rattle.plans.specs.declared.refusals.ChangeRefusal.{ChangeRefusal}

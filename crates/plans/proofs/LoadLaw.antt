@@ -8,9 +8,9 @@ use Rattle.plans.proofs.PublishedFeasible.{published_feasible, feasible_unrefuse
 use Rattle.plans.proofs.PublishedLoad.{feasible_published}
 use Rattle.plans.proofs.TableLists.{table_within}
 use Rattle.plans.specs.FirstRefusals.{FirstRefusal}
-use Rattle.plans.specs.LoadLaw.{LoadLaw, TableApplies, SequenceApplies, LoadApplies, given}
+use Rattle.plans.specs.LoadLaw.{LoadLaw, TableApplies, SequenceApplies, LoadApplies}
 use Rattle.plans.specs.Numbers.{number_of_load, told_by_load}
-use Rattle.plans.specs.Tables.{Table, Floorplan, ClosedTable, Fits, Feasible, table_of}
+use Rattle.plans.specs.Tables.{Table, Floorplan, ClosedTable, Fits, Feasible, table_of, given}
 use Rattle.plans.specs.Tests.{load_refusal, loadable}
 use Rattle.plans.specs.declared.refusals.LoadRefusal.{LoadRefusal}
 use Rattle.plans.specs.declared.refusals.LoadRefusal.TheVariants.{WrongShape, WrongCode, SelfRelated, NotOneEdge, NotClosed, WrongPlace, Backwards}

@@ -7,13 +7,13 @@ use Rattle.plans.specs.Calls.{Act, load, change, keep, undo}
 use Rattle.plans.specs.Changes.{unless, after_load, after_change, changed, change_refusal}
 use Rattle.plans.specs.First.{RowBefore}
 use Rattle.plans.specs.FirstRefusals.{FirstRefusal, Earlier}
-use Rattle.plans.specs.LoadLaw.{LoadApplies, given}
+use Rattle.plans.specs.LoadLaw.{LoadApplies}
 use Rattle.plans.specs.Model.{State, Layout, load_step, change_step, keep_step, undo_step, model_load, model_change}
 use Rattle.plans.specs.ModelRuns.{model_act}
 use Rattle.plans.specs.Numbers.{number_of_load, number_of_change, number_of_trial, told_by_load, told_by_change, told_by_plan, told_by_trial}
 use Rattle.plans.specs.PlanRefusals.{PlanRefusals, refusal_in, rank_of_plan, PlanApplies, PlanLoadApplies, PlanChangeApplies, TrialApplies}
 use Rattle.plans.specs.RefusalLaws.{ChangeApplies}
-use Rattle.plans.specs.Tables.{Floorplan}
+use Rattle.plans.specs.Tables.{Floorplan, given}
 use Rattle.plans.specs.Tests.{load_refusal}
 use Rattle.plans.specs.declared.change.Change.{Change}
 use Rattle.plans.specs.declared.refusals.LoadRefusal.{LoadRefusal}

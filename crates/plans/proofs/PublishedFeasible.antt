@@ -5,10 +5,10 @@ use Rattle.std.proofs.lemmas.Bool.Decides.{nat_tests}
 use Rattle.plans.proofs.Places.{place_at, times_twice}
 use Rattle.plans.proofs.PublishedLoad.{fits_names}
 use Rattle.plans.proofs.TableLists.{table_within}
-use Rattle.plans.specs.LoadLaw.{TableApplies, SequenceApplies, LoadApplies, given}
+use Rattle.plans.specs.LoadLaw.{TableApplies, SequenceApplies, LoadApplies}
 use Rattle.plans.specs.Published.{Published, edge, then}
 use Rattle.plans.specs.Search.{place_of}
-use Rattle.plans.specs.Tables.{Table, Floorplan, ClosedTable, Feasible, Fits, table_in, table_of}
+use Rattle.plans.specs.Tables.{Table, Floorplan, ClosedTable, Feasible, Fits, table_in, table_of, given}
 use Rattle.plans.specs.declared.refusals.LoadRefusal.{LoadRefusal}
 use Rattle.plans.specs.declared.refusals.LoadRefusal.TheVariants.{WrongShape, WrongCode, SelfRelated, NotOneEdge, NotClosed, WrongPlace, Backwards}
 

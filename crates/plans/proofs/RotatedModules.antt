@@ -1,11 +1,12 @@
 -- Calls leave rotated only what are modules.
-use Rattle.std.proofs.Common.{◌≡◌, ℕ, leb, List, [], ◌∷◌, Some, None, Ok, Err, Option, Result, unwrap_or, refl, ap, subst, arith}
+use Rattle.std.proofs.Common.{◌≡◌, leb, List, [], ◌∷◌, Some, None, Ok, Err, Option, Result, refl, arith}
 use Rattle.std.proofs.lemmas.Bool.Decides.{nat_tests}
 use Rattle.plans.proofs.Accepted.{refusing_none}
+use Rattle.plans.proofs.ModelLaw.{none_noted, one_noted}
 use Rattle.plans.specs.Calls.{Act, load, change, keep, undo, Call, acts, packs, asks}
 use Rattle.plans.specs.Changes.{change_refusal, changed, unless, after_load}
 use Rattle.plans.specs.Model.{State, Layout, made_of, load_step, change_step, keep_step, undo_step, layout_after}
-use Rattle.plans.specs.ModelLaw.{RotatesModules, NotedRotates, RotatesWithin, RunsRotate}
+use Rattle.plans.specs.ModelLaw.{WhatNoted, RotatesModules, RotatesWithin, RunsRotate}
 use Rattle.plans.specs.ModelRuns.{model_act, after_call, after_calls}
 use Rattle.plans.specs.Tables.{Floorplan}
 use Rattle.plans.specs.declared.change.Change.{Change}
@@ -26,33 +27,26 @@ changed_rotates l (Swap a b) none r i beyond = r i beyond
 changed_rotates l (Reverse a b) none r i beyond = r i beyond
 changed_rotates l (MoveEdge a b) none r i beyond = r i beyond
 
--- what was noted, if anything
-pub none_noted : NotedRotates None
-none_noted l e = let z : ◌≡◌ {A = ℕ} 0 1 = cc in absurd (omega arith)
-
-one_noted : (l : Layout) → RotatesModules l → NotedRotates (Some l)
-one_noted l r m e = subst RotatesModules (ap (λ o. unwrap_or o l) e) r
-
 load_rotates :
     (s : State) (n : Option Layout) (given : Result Floorplan LoadRefusal) → RotatesWithin s
     → RotatesWithin (load_step s n given).state
 load_rotates s (Some l) given r = r
 load_rotates s None (Err e) r = r
-load_rotates s None (Ok p) r = (λ i beyond. refl, none_noted)
+load_rotates s None (Ok p) r = (λ i beyond. refl, none_noted RotatesModules)
 
 change_rotates :
     (s : State) (c : Change) (n : Option Layout) (o : Option ChangeRefusal) → change_refusal s.current.plan c ≡ o
     → RotatesWithin s → RotatesWithin (change_step s c n (unless o (changed s.current.plan c))).state
 change_rotates s c (Some l) o e r = r
 change_rotates s c None (Some f) e r = r
-change_rotates s c None None e r = (changed_rotates s.current c e r.0, one_noted s.current r.0)
+change_rotates s c None None e r = (changed_rotates s.current c e r.0, one_noted RotatesModules s.current r.0)
 
 keep_rotates : (s : State) (n : Option Layout) → RotatesWithin s → RotatesWithin (keep_step s n).state
-keep_rotates s (Some l) r = (r.0, none_noted)
+keep_rotates s (Some l) r = (r.0, none_noted RotatesModules)
 keep_rotates s None r = r
 
-undo_rotates : (s : State) (n : Option Layout) → RotatesWithin s → NotedRotates n → RotatesWithin (undo_step s n).state
-undo_rotates s (Some l) r before = (before l refl, none_noted)
+undo_rotates : (s : State) (n : Option Layout) → RotatesWithin s → WhatNoted RotatesModules n → RotatesWithin (undo_step s n).state
+undo_rotates s (Some l) r before = (before l refl, none_noted RotatesModules)
 undo_rotates s None r before = r
 
 -- an act leaves rotated only what are modules
@@ -64,7 +58,7 @@ act_rotates s undo r = undo_rotates s s.noted r r.1
 
 -- a plan as it is made rotates none
 pub made_rotates : (p : Floorplan) → RotatesWithin (made_of p)
-made_rotates p = (λ i beyond. refl, none_noted)
+made_rotates p = (λ i beyond. refl, none_noted RotatesModules)
 
 module _ {I : Type 0} {L : I → Type 0} where
   call_rotates : (s : State) (c : Call L) → RotatesWithin s → RotatesWithin (after_call s c)

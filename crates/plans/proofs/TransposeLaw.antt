@@ -4,10 +4,9 @@ use mathlib.Core.Path.{fun_ext}
 use Rattle.plans.proofs.LoadLaw.{load_feasible, feasible_load, feasible_given}
 use Rattle.plans.proofs.Transposing.{other_same, other_some, other_none, other_graph_lem, other_cond, other_table, other_codes, map_twice, load_other, loads, made_other}
 use Rattle.plans.specs.Changes.{other_graph, exchange, swap_table, without_edge, up_to, on_from, reverse_table, move_table, bypassed, two_refusal, edge_refusal, change_refusal, changed, with_table}
-use Rattle.plans.specs.LoadLaw.{given}
 use Rattle.plans.specs.Search.{some_below, or_else, refusing}
 use Rattle.plans.specs.Sequences.{fitting, ordered_by}
-use Rattle.plans.specs.Tables.{Table, Floorplan, Feasible, table_in, codes_of}
+use Rattle.plans.specs.Tables.{Table, Floorplan, Feasible, table_in, codes_of, given}
 use Rattle.plans.specs.Transposed.{other_code, transpose, transpose_table}
 use Rattle.plans.specs.TransposeLaw.{TransposeLaw}
 use Rattle.plans.specs.declared.change.Change.{Change}

@@ -3,9 +3,8 @@
 use Rattle.std.specs.Prelude.{ℕ, Bool, true, false, List, [], ◌∷◌, ◌++◌, is_ok, Some, None, Option}
 use Rattle.plans.specs.Calls.{Act, load, change, keep, undo, Acted, Call, acts, packs, asks, AnswerTo, Told}
 use Rattle.plans.specs.Changes.{changed}
-use Rattle.plans.specs.LoadLaw.{given}
 use Rattle.plans.specs.Model.{State, Layout, made_of, unrotated, settled, on_trial, layout_after}
-use Rattle.plans.specs.Tables.{Floorplan}
+use Rattle.plans.specs.Tables.{Floorplan, given}
 use Rattle.plans.specs.declared.change.Change.{Change}
 
 -- what a plan came from: its making, or its last accepted load

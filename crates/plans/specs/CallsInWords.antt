@@ -1,10 +1,9 @@
 -- What loads and changes of a plan do, in the words of the subject.
 use Rattle.std.specs.Prelude.{◌≡◌, ℕ, ◌↔◌, List, None, Ok, Result}
 use Rattle.plans.specs.ChangesInWords.{ChangeWords}
-use Rattle.plans.specs.LoadLaw.{given}
 use Rattle.plans.specs.Model.{State, model_load, model_change}
 use Rattle.plans.specs.Published.{Published}
-use Rattle.plans.specs.Tables.{Feasible}
+use Rattle.plans.specs.Tables.{Feasible, given}
 use Rattle.plans.specs.declared.change.Change.{Change}
 
 -- where no trial is open, a load is accepted exactly where the published definition admits its table with its sequence

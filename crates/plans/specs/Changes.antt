@@ -1,8 +1,8 @@
 -- The changes of a floorplan, their refusals, and what a load or a change makes of a floorplan.
-use Rattle.std.specs.Prelude.{◌≡◌, ℕ, ◌-◌, Bool, cond, not, ◌&&◌, ◌||◌, List, map, length, Some, None, Ok, Err, Option, Result, ◌==◌, nat_le}
+use Rattle.std.specs.Prelude.{◌≡◌, ℕ, ◌-◌, Bool, cond, not, ◌&&◌, ◌||◌, List, map, Some, None, Ok, Err, Option, Result, ◌==◌, nat_le}
 use Rattle.plans.specs.Search.{some_below, or_else, refusing}
 use Rattle.plans.specs.Sequences.{fitting}
-use Rattle.plans.specs.Tables.{Table, Floorplan, table_in, codes_of}
+use Rattle.plans.specs.Tables.{Table, Floorplan, given, table_in, codes_of}
 use Rattle.plans.specs.Tests.{load_refusal}
 use Rattle.plans.specs.declared.change.Change.{Change}
 use Rattle.plans.specs.declared.change.Change.TheVariants.{Rotate, Swap, Reverse, MoveEdge}
@@ -91,7 +91,7 @@ unless None x = Ok x
 
 -- what a load gives: its first refusal, or the floorplan that was loaded
 abbrev pub after_load : List ℕ → List ℕ → Result Floorplan LoadRefusal
-after_load codes s = unless (load_refusal codes s) (record { size = length s; codes = codes; sequence = s })
+after_load codes s = unless (load_refusal codes s) (given codes s)
 
 -- what a change of a floorplan gives: its first refusal, or the changed floorplan
 abbrev pub after_change : Floorplan → Change → Result Floorplan ChangeRefusal

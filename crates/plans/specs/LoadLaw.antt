@@ -4,7 +4,7 @@ use Rattle.plans.specs.FirstRefusals.{FirstRefusal}
 use Rattle.plans.specs.Numbers.{number_of_load, told_by_load}
 use Rattle.plans.specs.Published.{Published}
 use Rattle.plans.specs.Search.{place_of}
-use Rattle.plans.specs.Tables.{Table, Floorplan, Feasible, table_of}
+use Rattle.plans.specs.Tables.{Table, Floorplan, Feasible, table_of, given}
 use Rattle.plans.specs.Tests.{table_refusal, load_refusal}
 use Rattle.plans.specs.declared.refusals.LoadRefusal.{LoadRefusal}
 use Rattle.plans.specs.declared.refusals.LoadRefusal.TheVariants.{WrongShape, WrongCode, SelfRelated, NotOneEdge, NotClosed, WrongPlace, Backwards}
@@ -43,10 +43,6 @@ SequenceApplies c s (Backwards i j) = InPlan (length s) i j ((0 < c i j) × (pla
 -- a refusal of a load applies to its table or to its sequence
 abbrev pub LoadApplies : List ℕ → List ℕ → LoadRefusal → Type 0
 LoadApplies codes s e = TableApplies 64 2 (length s) codes e ⊎ SequenceApplies (table_of (length s) codes) s e
-
--- the floorplan of a table and a sequence as they are given
-abbrev pub given : List ℕ → List ℕ → Floorplan
-given codes s = record { size = length s; codes = codes; sequence = s }
 
 -- the law of the load: the first refusal is answered; none is exactly where the published definition admits the
 -- codes with the sequence; and feasible says the same as the published definition

@@ -1,30 +1,26 @@
 -- The law of the model: every state that calls reach is feasible and rotates modules alone, with what its trial noted.
-use Rattle.std.specs.Prelude.{◌≡◌, ℕ, ◌≤◌, false, List, Some, None, Option}
+use Rattle.std.specs.Prelude.{◌≡◌, ℕ, ◌≤◌, false, List, Some, Option}
 use Rattle.plans.specs.Calls.{Call}
 use Rattle.plans.specs.Model.{State, Layout, made_of}
 use Rattle.plans.specs.ModelRuns.{after_calls}
 use Rattle.plans.specs.Tables.{Floorplan, Feasible}
 
--- what was noted, if a trial is open, is feasible
-abbrev pub NotedFeasible : Option Layout → Type 0
-NotedFeasible (Some l) = Feasible l.plan
-NotedFeasible None = Unit {0}
+-- what was noted, if a trial is open, passes
+abbrev pub WhatNoted : (Layout → Type 0) → Option Layout → Type 0
+WhatNoted Passes noted = (l : Layout) → noted ≡ Some l → Passes l
 
 -- a state whose floorplan is feasible, and whose noted floorplan is too
 pub record FeasibleState (s : State) : Type 0 where
   pub current : Feasible s.current.plan
-  pub noted : NotedFeasible s.noted
+  pub noted : WhatNoted (λ l. Feasible l.plan) s.noted
 
 -- no number is rotated that is no module's
 abbrev pub RotatesModules : Layout → Type 0
 RotatesModules l = (i : ℕ) → l.plan.size ≤ i → l.rotated i ≡ false
 
--- nor in what was noted, if a trial is open
-abbrev pub NotedRotates : Option Layout → Type 0
-NotedRotates noted = (l : Layout) → noted ≡ Some l → RotatesModules l
-
+-- nor in what was noted
 abbrev pub RotatesWithin : State → Type 0
-RotatesWithin s = RotatesModules s.current × NotedRotates s.noted
+RotatesWithin s = RotatesModules s.current × WhatNoted RotatesModules s.noted
 
 -- from a feasible floorplan, calls in any number and order lead to feasible states
 abbrev pub RunsFeasible : {I : Type 0} → (I → Type 0) → Type 0

@@ -11,7 +11,7 @@ use Rattle.plans.specs.Published.{Published}
 use Rattle.plans.specs.Tables.{Floorplan, Feasible}
 
 -- what a packing at a state answered and wrote: a chip is the least placement's; with a module pinned, "no place" is
--- answered exactly where nothing else refuses and there is none
+-- answered exactly where nothing else refuses and no placement has the pin
 abbrev pub PackingKept : {L : Type 0} → Kind L → State → (p : Packing L) → PackingOutcome p → Type 0
 PackingKept K s (pack h) o = ShowsChip K (task_at s h.sides) h.before o
 PackingKept K s (pack_pinned h a across up) o = TellsPinned K (task_at s h.sides) h.before a across up o
@@ -20,12 +20,15 @@ PackingKept K s (pack_with_rotation h a) o = ShowsChip K (rotated_task (task_at 
 module _ {I : Type 0} {L : I → Type 0} (K : (kind : I) → Kind (L kind)) where
   -- after calls with their answers, from a plan that was made over a floorplan to the state that it now has
   pub record RunKept (made : Floorplan) (told : List (Told L)) (now : State) : Type 0 where
-    -- at each point of the run the floorplan is one that the published definition admits: two different modules in
-    -- exactly one relation, both graphs closed, no path returning to its start, the sequence along every edge
+    -- at each point, wherever the run is cut in two, the floorplan is one that the published definition admits: two
+    -- different modules in exactly one relation, both graphs closed, no path returning to its start, the sequence along
+    -- every edge
     pub published :
         (earlier later : List (Told L)) → told ≡ earlier ++ later → Published (accounted made earlier).current.plan
-    -- each packing keeps the relations, no two modules overlap, and it is least among all that keep them, of the plan
-    -- that the calls before it account for
+    -- a packing that answers a chip, of the plan that the calls before it account for, shows a placement that keeps the
+    -- relations and the pin, in which no two modules overlap, and which is least among all within the limit that keep
+    -- them with those sides and rotations; "no place" is answered exactly where no earlier refusal applies and there is
+    -- none, and the list then shows the least placement without the pin
     pub packed :
         (earlier later : List (Told L)) (kind : I) (p : Packing (L kind)) (outcome : PackingOutcome p)
         → told ≡ earlier ++ (record { call = packs kind p; answer = outcome } ∷ later)

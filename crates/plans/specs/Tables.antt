@@ -29,6 +29,10 @@ table_in p = table_of p.size p.codes
 abbrev pub module_at : Floorplan → ℕ → Option ℕ
 module_at p k = cond (nat_lt k (length p.sequence)) (Some (slice_index p.sequence k)) None
 
+-- the floorplan of codes and a sequence as they are given
+abbrev pub given : List ℕ → List ℕ → Floorplan
+given codes s = record { size = length s; codes = codes; sequence = s }
+
 -- the floorplan of no modules, which a fresh representation means
 abbrev pub no_modules : Floorplan
 no_modules = record { size = 0; codes = []; sequence = [] }

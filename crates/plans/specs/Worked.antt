@@ -1,8 +1,8 @@
 -- Plans worked by hand, with all their numbers, and the literature's example.
-use Rattle.std.specs.Prelude.{◌≡◌, ℕ, Bool, true, false, not, List, [], ◌∷◌, map, Some, None, Ok, Err, Result}
+use Rattle.std.specs.Prelude.{◌≡◌, ℕ, Bool, true, false, cond, not, List, [], ◌∷◌, map, Some, None, Ok, Err, Result, ◌==◌}
 use Rattle.std.specs.List.{range_with_len}
-use Rattle.plans.specs.Accounts.{Account, making, loading, new_account, account_from, acts_of}
-use Rattle.plans.specs.Calls.{Act, load, change, keep, undo, pack, pack_with_rotation, code_at, whether_rotated, whether_on_trial, Call, acts, packs, asks, Told}
+use Rattle.plans.specs.Accounts.{Account, making, loading, new_account, account_from, acts_of, accounted}
+use Rattle.plans.specs.Calls.{Act, load, change, keep, undo, pack, pack_pinned, pack_with_rotation, code_at, whether_rotated, whether_on_trial, Call, acts, packs, asks, Told}
 use Rattle.plans.specs.Changes.{after_load, after_change, change_refusal, changed, bypassed}
 use Rattle.plans.specs.Kinds.{Count, plain_kind, counted_kind}
 use Rattle.plans.specs.Model.{State, made_of, model_change}
@@ -198,13 +198,27 @@ pub record WorkedPlans : Type 0 where
       (acted_on two_under_one (change (Rotate 1) ∷ keep ∷ change (Swap 0 2) ∷ load [] [] ∷ undo ∷ [])).current.plan
       ≡ two_under_one
   -- the account of a run: a refused change and an undone one leave no trace, a kept one and one on trial do
-  pub accounted :
+  pub account_told :
       account_on two_under_one (change (Reverse 1 0) ∷ change (Swap 0 2) ∷ undo ∷ change (Reverse 0 1) ∷ keep ∷ change (Rotate 2) ∷ [])
       ≡ record { origin = making; kept = Reverse 0 1 ∷ []; trial = Some (Rotate 2) }
-  pub accounted_load :
+  pub account_loaded :
       account_on two_under_one (change (Rotate 2) ∷ keep ∷ load two_beside_one.codes two_beside_one.sequence ∷ keep ∷ [])
       ≡ record { origin = loading two_beside_one.codes two_beside_one.sequence; kept = []; trial = None }
-  -- a run with packings and questions: module 2 rotated on trial, packed as it then lies and as if rotated once more
+  -- and the plan that it gives: as made, with one change kept and one on trial; as loaded, with one kept
+  pub accounted_on_trial :
+      accounted two_under_one (plainly_told two_under_one (acts (change (Reverse 0 1)) ∷ acts keep ∷ acts (change (Rotate 2)) ∷ acts (load [] []) ∷ []))
+      ≡ record {
+        current = record { plan = three 0 0 2 1 0 2 0 0 0 1 0 2; rotated = λ i. cond (i == 2) true false };
+        noted = Some (record { plan = three 0 0 2 1 0 2 0 0 0 1 0 2; rotated = λ i. false });
+      }
+  pub accounted_since_load :
+      accounted two_under_one (plainly_told two_under_one (
+        acts (change (Rotate 2)) ∷ acts keep ∷ acts (load two_beside_one.codes two_beside_one.sequence)
+        ∷ acts (change (Reverse 0 1)) ∷ acts keep ∷ acts (change (Rotate 0)) ∷ acts undo ∷ []
+      ))
+      ≡ made_of (three 0 0 0 1 0 0 1 1 0 2 1 0)
+  -- a run with packings and questions: module 2 rotated on trial, packed as it then lies and as if rotated once
+  -- more; then undone, and packed with a module pinned too near
   pub run_told :
       plainly_told two_under_one (
       acts (change (Rotate 2))
@@ -212,6 +226,7 @@ pub record WorkedPlans : Type 0 where
       ∷ packs tt (pack_with_rotation (record { sides = three_sides; before = blank }) 2)
       ∷ asks (whether_rotated 2)
       ∷ acts undo
+      ∷ packs tt (pack_pinned (record { sides = three_sides; before = blank }) 1 3 0)
       ∷ asks whether_on_trial
       ∷ asks (code_at 0 2)
       ∷ acts keep
@@ -234,6 +249,13 @@ pub record WorkedPlans : Type 0 where
       }
       ∷ record { call = asks (whether_rotated 2); answer = true }
       ∷ record { call = acts undo; answer = Ok tt }
+      ∷ record {
+        call = packs tt (pack_pinned (record { sides = three_sides; before = blank }) 1 3 0);
+        answer = record {
+          answer = Err NoPlace;
+          results = placed 0 0 4 2 ∷ placed 4 0 7 3 ∷ placed 0 3 5 4 ∷ placed 9 9 9 9 ∷ [];
+        };
+      }
       ∷ record { call = asks whether_on_trial; answer = false }
       ∷ record { call = asks (code_at 0 2); answer = 2 }
       ∷ record { call = acts keep; answer = Err NoTrial }

@@ -13,7 +13,8 @@ pub trait Family {
     ghost kind_of: { (kind : index) → Kind (length_of kind) };
 }
 
-/// No kinds at all. A call that passes `Brand` may pick another family in its proof.
+/// No kinds at all, so a law of runs in it says nothing of packings, unless the proof of the call that passes `Brand`
+/// picks another family.
 impl Family for Brand {
     ghost index = { ⊥ };
 

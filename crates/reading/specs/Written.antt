@@ -1,8 +1,7 @@
 -- What a well-written plan sheet gives to load: a code for each letter of its rows, and its sequence.
 use Rattle.std.specs.Prelude.{ℕ, ◌*◌, List, map, Option}
 use Rattle.std.specs.List.{range_with_len}
-use Rattle.plans.specs.LoadLaw.{given}
-use Rattle.plans.specs.Tables.{Floorplan}
+use Rattle.plans.specs.Tables.{Floorplan, given}
 use Rattle.plans.specs.Tests.{load_refusal}
 use Rattle.plans.specs.declared.refusals.LoadRefusal.{LoadRefusal}
 use Rattle.sheets.specs.Reading.{modules_of, code_read, place_read}

@@ -1,7 +1,7 @@
 -- What is loaded is feasible, and the pair of its table means it.
 use Rattle.std.proofs.Common.{◌∙◌}
 use Rattle.plans.proofs.LoadLaw.{load_feasible}
-use Rattle.plans.specs.LoadLaw.{given}
+use Rattle.plans.specs.Tables.{given}
 use Rattle.sequence_pairs.proofs.Counted.{refit}
 use Rattle.sequence_pairs.proofs.loading.loaded_pair.Goals as goal
 

@@ -5,7 +5,7 @@ use Rattle.plans.specs.Packing.{no_pins}
 use Rattle.plans.specs.PackingCalls.{no_place}
 use Rattle.plans.specs.declared.pack_refusals.PinnedRefusal.TheVariants.{NoPlace}
 use Rattle.packing.proofs.Outcomes.{some_place, not_placed, ready_free, ready_pinned, pinned_done, pinned_nowhere, pinned_shows}
-use Rattle.packing.specs.Steps.{Ready}
+use Rattle.packing.specs.Steps.{ReadyToPack}
 use Rattle.packing.specs.Tasks.{task_of, pin_of}
 use Rattle.packing.proofs.job.Job.pack_at.Goals as goal
 
@@ -39,7 +39,7 @@ place_all-requires-2 g c =
     let pin = c.args.pin in
     let none = (not_refused_pinned K t before pin.«module» pin.across pin.up c.requires).0 in
     let kept : length before ≡ length c.place_all.new.results = omega arith in
-    subst (λ n. Ready K t no_pins n) kept (ready_free K t before feasible none)
+    subst (λ n. ReadyToPack K t no_pins n) kept (ready_free K t before feasible none)
 
 pub returns : goal.returns
 returns g c =

@@ -1,8 +1,8 @@
 -- What a trial noted rotates modules alone.
 use Rattle.std.proofs.Common.{sym, ap, subst}
 use Rattle.std.specs.Option.{option_map}
-use Rattle.plans.proofs.RotatedModules.{none_noted}
-use Rattle.plans.specs.ModelLaw.{RotatesModules, NotedRotates}
+use Rattle.plans.proofs.ModelLaw.{none_noted}
+use Rattle.plans.specs.ModelLaw.{WhatNoted, RotatesModules}
 use Rattle.planner.specs.Layouts.{noted_layout}
 use Rattle.planner.proofs.plan.Plan.undo.Goals as goal
 
@@ -13,6 +13,6 @@ invariant_of-self-2 g c =
       rotations = (
         subst RotatesModules (sym c.restore.ensures)
             (c.args.self.now.rotations.1 (noted_layout noted) (ap (option_map noted_layout) (sym c.in-Some.ensures.value))),
-        subst (λ o. NotedRotates (option_map noted_layout o)) (sym c.in-Some.ensures.after) none_noted,
+        subst (λ o. WhatNoted RotatesModules (option_map noted_layout o)) (sym c.in-Some.ensures.after) (none_noted RotatesModules),
       );
     }

@@ -1,0 +1,6 @@
+-- Counted lengths are lawful.
+use Rattle.lengths.specs.OfferedLemmas.{counted_laws}
+use Rattle.listing.proofs.scripted.Scripted.new.Goals as goal
+
+pub returns-clause-law : goal.returns-clause-law
+returns-clause-law g c = c.over.ensures.law (λ kind. counted_laws)
