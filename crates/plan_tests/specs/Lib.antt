@@ -1,0 +1,2 @@
+-- The sample runs, as lists of calls with their answers.
+pub mod SampleRuns

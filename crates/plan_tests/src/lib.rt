@@ -1,0 +1,13 @@
+// Sample runs of a plan, and what the law of plans says of them.
+#![tactic(auto)]
+
+mod asked;
+mod ending;
+mod sample;
+mod trial;
+mod wanted;
+
+pub use asked::Asked;
+pub use sample::{Sample, sample_run};
+pub use trial::{Blocked, Tried};
+pub use wanted::Wanted;

@@ -1,0 +1,22 @@
+// What a sample run is handed.
+use packing::Pin;
+use plans::{Change, Sides};
+
+/// What a sample run calls with, beside its result lists: sides in two kinds of length, and three changes.
+pub struct Wanted<'a, L, M> {
+    pub codes: &'a [u8],
+    pub sequence: &'a [usize],
+    pub sides: &'a [Sides<L>],
+    pub counts: &'a [Sides<M>],
+    /// tried, and kept
+    pub kept: Change,
+    /// wanted while the other is on trial
+    pub blocked: Change,
+    /// tried, and undone
+    pub undone: Change,
+    pub pin: Pin<M>,
+    /// rotated once more in a packing, and asked about
+    pub one: usize,
+    /// asked about with it
+    pub other: usize,
+}
