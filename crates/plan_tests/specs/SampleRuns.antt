@@ -1,26 +1,29 @@
--- The calls of a sample run, each with what the run says that it was answered.
+-- The calls of the sample runs, each with what the run says that it was answered.
 use Rattle.std.specs.Prelude.{ℕ, List, [], ◌∷◌, ◌++◌, Ok, Err, Result}
+use Rattle.lengths.specs.declared.counted.Counted.{Counted}
+use Rattle.lengths.specs.declared.plain.Plain.{Plain}
+use Rattle.lengths.specs.Families.{first, second, lengths_of_two}
 use Rattle.plans.specs.Calls as calls
 use Rattle.plans.specs.Calls.{Told, acts, packs, asks, pack, pack_pinned, pack_with_rotation}
 use Rattle.plans.specs.declared.change.Change.{Change}
 use Rattle.plans.specs.declared.measures.Chip.{Chip}
 use Rattle.plans.specs.declared.measures.Placed.{Placed}
+use Rattle.plans.specs.declared.measures.Sides.{Sides}
 use Rattle.plans.specs.declared.pack_refusals.PackRefusal.{PackRefusal}
 use Rattle.plans.specs.declared.refusals.ChangeRefusal.{ChangeRefusal}
 use Rattle.plans.specs.declared.refusals.PlanRefusal.{PlanRefusal}
-use Rattle.lengths.specs.declared.counted.Counted.{Counted}
-use Rattle.lengths.specs.declared.plain.Plain.{Plain}
-use Rattle.lengths.specs.Families.{first, second, lengths_of_two}
+use Rattle.representations.specs.declared.representation.Representation.{Ghosts}
+use Rattle.plan_tests.specs.declared.asked.Asked.{Asked}
+use Rattle.plan_tests.specs.declared.ending.Ending.TheVariants.{Keep, Undo}
+use Rattle.plan_tests.specs.declared.ending.Ending.{Ending}
+use Rattle.plan_tests.specs.declared.new_plan.TwoCalls.{TwoCalls}
 use Rattle.plan_tests.specs.declared.sample.Sample.{Sample}
 use Rattle.plan_tests.specs.declared.trial.Blocked.{Blocked}
 use Rattle.plan_tests.specs.declared.trial.Tried.{Tried}
 use Rattle.plan_tests.specs.declared.wanted.Wanted.{Wanted}
-use Rattle.plan_tests.specs.declared.asked.Asked.{Asked}
-use Rattle.plan_tests.specs.declared.ending.Ending.{Ending}
-use Rattle.plan_tests.specs.declared.ending.Ending.TheVariants.{Keep, Undo}
 
 module _ {I : Type 0} {L : I → Type 0} where
-  -- three questions
+  -- the three questions
   abbrev pub asked_told : ℕ → ℕ → Asked → List (Told L)
   asked_told i j a =
       record { call = asks (calls.code_at i j); answer = a.code }
@@ -32,7 +35,7 @@ module _ {I : Type 0} {L : I → Type 0} where
   end_told Keep = record { call = acts calls.keep; answer = Ok tt } ∷ []
   end_told Undo = record { call = acts calls.undo; answer = Ok tt } ∷ []
 
-  -- a load and a change during a trial
+  -- a load, and another change, which is refused, during a trial
   abbrev pub blocked_told : List ℕ → List ℕ → Change → Blocked → List (Told L)
   blocked_told codes sequence c b =
       record { call = acts (calls.load codes sequence); answer = b.load }
@@ -44,7 +47,7 @@ module _ {I : Type 0} {L : I → Type 0} where
   undone_told c (Ok u) = record { call = acts (calls.change c); answer = Ok tt } ∷ end_told Undo
 
 module _ {L M : Type 0} (w : Wanted L M) where
-  -- the first change, and the calls of its trial where it is done
+  -- a change, and the calls of its trial where it is done
   abbrev pub tried_told :
       List (Placed M) → List (Placed M) → List (Placed L) → List (Placed L) → Result (Tried L M) (PlanRefusal ChangeRefusal)
       → List (Told (lengths_of_two L M))
@@ -60,7 +63,7 @@ module _ {L M : Type 0} (w : Wanted L M) where
         call = packs first (pack_with_rotation (record { sides = w.sides.now; before = rotated }) w.one);
         answer = record { answer = t.once_more; results = rotated' };
       }
-      ∷ (asked_told w.one w.other t.asked
+      ∷ (asked_told w.other w.one t.asked
       ++ (blocked_told w.codes.now w.sequence.now w.blocked t.blocked ++ end_told Keep))
 
 -- a packing alone, in plain lengths
@@ -82,3 +85,15 @@ sample_told w plain plain' pinned pinned' rotated rotated' short short' s =
     ∷ packed_told w plain plain' s.packed
     ∷ (tried_told w pinned pinned' rotated rotated' s.tried
     ++ (undone_told w.undone s.undone ++ packed_told w short short' s.short ∷ []))
+
+-- a load and a packing of a new plan, in one kind of length
+abbrev pub load_and_pack_told :
+    {R L : Type 0} {g : Ghosts R} → List ℕ → List ℕ → List (Sides L) → List (Placed L) → List (Placed L) → TwoCalls R L g
+    → List (Told (λ (kind : Unit {0}). L))
+load_and_pack_told codes sequence sides list list' t =
+    record { call = acts (calls.load codes sequence); answer = t.loaded }
+    ∷ record {
+      call = packs tt (pack (record { sides = sides; before = list }));
+      answer = record { answer = t.packed; results = list' };
+    }
+    ∷ []

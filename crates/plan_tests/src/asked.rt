@@ -7,6 +7,7 @@ use plans::Family;
 use representations::Representation;
 
 /// What a plan told of two modules: their code, whether the first is rotated, and whether a trial is open.
+#[derive(Clone, Copy)]
 pub struct Asked {
     pub code: u8,
     pub rotated: bool,

@@ -19,6 +19,7 @@ use representations::{Representation, Transposed};
 use sequence_pairs::SequencePair;
 
 /// The plan at the end of the sample run, and what each call was answered.
+#[derive(Drop)]
 pub struct Sample {
     pub plan: Plan<Transposed<SequencePair>>,
     pub loaded: Result<(), PlanLoadRefusal>,

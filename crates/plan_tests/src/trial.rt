@@ -16,13 +16,15 @@ use plans::{
 };
 use representations::Representation;
 
-/// What a load and a change were answered during a trial, which a change can't be done in.
+/// What a load and another change were answered while a change was on trial: the other is refused.
+#[derive(Clone, Copy)]
 pub struct Blocked {
     pub load: Result<(), PlanLoadRefusal>,
     pub change: PlanChangeRefusal,
 }
 
 /// What was answered while a change was on trial.
+#[derive(Clone, Copy)]
 pub struct Tried<L, M> {
     pub pinned: Result<Chip<M>, PinnedRefusal>,
     pub once_more: Result<Chip<L>, RotationRefusal>,
@@ -41,7 +43,7 @@ fn refusal_of(answer: Result<Decision, PlanChangeRefusal>) -> PlanChangeRefusal
     }
 }
 
-// A load and a change during a trial.
+// A load and another change during a trial.
 fn block<R: Representation, F: Family>(
     plan: &mut Plan<R>,
     codes: &[u8],
@@ -75,7 +77,7 @@ pub(crate) fn try_and_keep<R: Representation, L: Length, M: Length>(
         Ok(decision) => {
             let pinned = plan.pack_pinned(wanted.counts, pinned_list, wanted.pin);
             let once_more = plan.pack_with_rotation(wanted.sides, rotated_list, wanted.one);
-            let asked = ask::<R, TwoKinds<L, M>>(plan, wanted.one, wanted.other);
+            let asked = ask::<R, TwoKinds<L, M>>(plan, wanted.other, wanted.one);
             let blocked = block::<R, TwoKinds<L, M>>(
                 plan,
                 wanted.codes,

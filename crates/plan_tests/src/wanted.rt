@@ -3,6 +3,7 @@ use packing::Pin;
 use plans::{Change, Sides};
 
 /// What a sample run calls with, beside its result lists: sides in two kinds of length, and three changes.
+#[derive(Clone, Copy)]
 pub struct Wanted<'a, L, M> {
     pub codes: &'a [u8],
     pub sequence: &'a [usize],
@@ -15,8 +16,8 @@ pub struct Wanted<'a, L, M> {
     /// tried, and undone
     pub undone: Change,
     pub pin: Pin<M>,
-    /// rotated once more in a packing, and asked about
+    /// rotated once more in a packing
     pub one: usize,
-    /// asked about with it
+    /// asked about: its code to the one, and whether it is rotated
     pub other: usize,
 }
