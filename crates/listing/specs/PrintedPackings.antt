@@ -13,6 +13,7 @@ use Rattle.plans.specs.declared.measures.Sides.{Sides}
 use Rattle.sheets.specs.declared.command.Command.{Command}
 use Rattle.std.specs.Prelude.{◌≡◌, List, replicate, Ok}
 
+-- what a script packs and prints
 pub record PrintedPackings : Type 0 where
   -- a command leads from a feasible state to a feasible one
   pub feasible : (s : State) (c : Command) → FeasibleState s → FeasibleState (state_after s c)

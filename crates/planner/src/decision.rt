@@ -4,12 +4,15 @@ ghost use Rattle.plans.specs.declared.refusals.TrialRefusal.TheVariants.{NoTrial
 
 use plans::TrialRefusal;
 
-// One open decision. It can't be let go, copied or made elsewhere: keep or undo spends it.
+/// One open decision: a change that is done hands it out, and a keep or an undo spends it. It can't be let go, copied or
+/// made elsewhere. That is the compiler's word and no clause's, since it has a private field and derives neither `Drop`
+/// nor `Clone` nor `Copy`. Every contract would still be met with them: `Drop` would let a decision fall unspent, and
+/// `Clone` or `Copy` would let a program decide twice by one.
 pub struct Decision {
     open: (),
 }
 
-// A keep or an undo that is refused hands the decision back.
+/// A keep or an undo that is refused, which hands the decision back. It is held to the same by the decision in it.
 pub struct Undecided {
     pub refusal: TrialRefusal,
     pub decision: Decision,

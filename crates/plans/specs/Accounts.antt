@@ -44,10 +44,11 @@ abbrev pub account_from : Account → List Acted → Account
 account_from a [] = a
 account_from a (t ∷ ts) = account_from (note_if (is_ok t.answer) a t.act) ts
 
--- a layout after one change, and after several in turn
+-- a layout after one change
 abbrev pub changed_layout : Layout → Change → Layout
 changed_layout l c = layout_after l c (changed l.plan c)
 
+-- and after several in turn
 abbrev pub replayed : Layout → List Change → Layout
 replayed l [] = l
 replayed l (c ∷ cs) = replayed (changed_layout l c) cs

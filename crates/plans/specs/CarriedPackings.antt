@@ -9,23 +9,27 @@ use Rattle.plans.specs.declared.measures.Placed.{Placed}
 use Rattle.plans.specs.declared.measures.Chip.{Chip}
 
 module _ {L M : Type 0} (h : L → M) where
-  -- sides, pins and what is packed, each length carried
+  -- each length carried, in sides
   abbrev pub carry_sides : Sides L → Sides M
   carry_sides s = record { width = h s.width; height = h s.height }
 
+  -- so in a task
   abbrev pub carry_task : Task L → Task M
   carry_task t = record { plan = t.plan; rotated = t.rotated; sides = map carry_sides t.sides }
 
+  -- in pins
   abbrev pub carry_pins : Pins L → Pins M
   carry_pins pins g i = option_map h (pins g i)
 
-  -- a placed module, a chip and an outcome, each length carried
+  -- in a placed module
   abbrev pub carry_placed : Placed L → Placed M
   carry_placed p = record { left = h p.left; bottom = h p.bottom; right = h p.right; top = h p.top }
 
+  -- a chip
   abbrev pub carry_chip : Chip L → Chip M
   carry_chip c = record { width = h c.width; height = h c.height; area = c.area }
 
+  -- and an outcome
   abbrev pub carry_outcome : {E : Type 0} → Outcome L E → Outcome M E
   carry_outcome o = record { answer = carry_answer o.answer; results = map carry_placed o.results }
     where

@@ -11,13 +11,15 @@ pub record Kind (L : Type 0) : Type 0 where
   pub at_most : L → L → Bool
   pub reach : L → ℕ
 
--- the greatest extent of a side, of a pin and of a sum
+-- the greatest extent of a side
 abbrev pub side_limit : ℕ
 side_limit = 100000
 
+-- of a coordinate of a pin
 abbrev pub pin_limit : ℕ
 pin_limit = 3600000
 
+-- and of two lengths that are added
 abbrev pub sum_limit : ℕ
 sum_limit = 10000000
 

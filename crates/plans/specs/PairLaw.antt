@@ -18,6 +18,7 @@ pub record Pair (m : ℕ) (other packing : List ℕ) : Type 0 where
   pub first : NamesEach m other
   pub second : NamesEach m packing
 
+-- pairs and feasible floorplans determine each other
 pub record PairLaw : Type 0 where
   -- a pair makes a feasible floorplan
   pub feasible : (m : ℕ) (other packing : List ℕ) → Pair m other packing → Feasible (from_pair other packing)

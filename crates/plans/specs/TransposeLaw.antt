@@ -10,6 +10,7 @@ abbrev pub transpose_made : {E : Type 0} → Result Floorplan E → Result Floor
 transpose_made (Ok p) = Ok (transpose p)
 transpose_made (Err e) = Err e
 
+-- what exchanging the axes keeps
 pub record TransposeLaw : Type 0 where
   -- twice is the floorplan itself
   pub inverse : (p : Floorplan) → transpose (transpose p) ≡ p

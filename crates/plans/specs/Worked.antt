@@ -95,17 +95,19 @@ seven = from_pair (2 ∷ 1 ∷ 5 ∷ 4 ∷ 3 ∷ 0 ∷ 6 ∷ []) (0 ∷ 1 ∷ 2 
 abbrev pub seven_sides : List (Sides ℕ)
 seven_sides = sides 7 3 ∷ sides 4 5 ∷ sides 4 7 ∷ sides 6 4 ∷ sides 3 3 ∷ sides 10 3 ∷ sides 2 4 ∷ []
 
--- calls with packings in plain lengths, and what the model answers to them over a floorplan
+-- calls with packings in plain lengths
 abbrev pub PlainCall : Type 0
 PlainCall = Call (λ (kind : Unit {0}). ℕ)
 
+-- what the model answers to them over a floorplan
 abbrev pub plainly_told : Floorplan → List PlainCall → List (Told (λ (kind : Unit {0}). ℕ))
 plainly_told p calls = model_told (λ kind. plain_kind) (made_of p) calls
 
--- the state after acts over a floorplan, and the account of them
+-- the state after acts over a floorplan
 abbrev pub acted_on : Floorplan → List Act → State
 acted_on p all = after_calls {L = λ (kind : Unit {0}). ℕ} (made_of p) (map (λ a. acts a) all)
 
+-- the account of them
 abbrev pub account_on : Floorplan → List Act → Account
 account_on p all = account_from new_account (acts_of (plainly_told p (map (λ a. acts a) all)))
 
@@ -213,8 +215,8 @@ pub record WorkedPlans : Type 0 where
       }
   pub accounted_since_load :
       accounted two_under_one (plainly_told two_under_one (
-        acts (change (Rotate 2)) ∷ acts keep ∷ acts (load two_beside_one.codes two_beside_one.sequence)
-        ∷ acts (change (Reverse 0 1)) ∷ acts keep ∷ acts (change (Rotate 0)) ∷ acts undo ∷ []
+      acts (change (Rotate 2)) ∷ acts keep ∷ acts (load two_beside_one.codes two_beside_one.sequence)
+      ∷ acts (change (Reverse 0 1)) ∷ acts keep ∷ acts (change (Rotate 0)) ∷ acts undo ∷ []
       ))
       ≡ made_of (three 0 0 0 1 0 0 1 1 0 2 1 0)
   -- a run with packings and questions: module 2 rotated on trial, packed as it then lies and as if rotated once
