@@ -36,13 +36,9 @@ fn try_and_undo<R: Representation, F: Family>(
 ) -> Result<(), PlanChangeRefusal>
     ensures { Run F.Family.kind_of plan.old (undone_told change result) plan.new }
 {
-    match plan.change(change) {
-        Err(refusal) => Err(refusal),
-        Ok(decision) => {
-            end::<R, F>(plan, decision, Ending::Undo);
-            Ok(())
-        }
-    }
+    let decision = plan.change(change)?;
+    end::<R, F>(plan, decision, Ending::Undo);
+    Ok(())
 }
 
 /// Makes a plan over a layer, loads it and packs it in plain lengths; tries a change and keeps it, with packings in both

@@ -72,25 +72,16 @@ pub(crate) fn try_and_keep<R: Representation, L: Length, M: Length>(
 ) -> Result<Tried<L, M>, PlanChangeRefusal>
     ensures { Run (two_kinds L.Length.kind M.Length.kind) plan.old (tried_told wanted.now pinned_list.old pinned_list.new rotated_list.old rotated_list.new result) plan.new }
 {
-    match plan.change(wanted.kept) {
-        Err(refusal) => Err(refusal),
-        Ok(decision) => {
-            let pinned = plan.pack_pinned(wanted.counts, pinned_list, wanted.pin);
-            let once_more = plan.pack_with_rotation(wanted.sides, rotated_list, wanted.one);
-            let asked = ask::<R, TwoKinds<L, M>>(plan, wanted.other, wanted.one);
-            let blocked = block::<R, TwoKinds<L, M>>(
-                plan,
-                wanted.codes,
-                wanted.sequence,
-                wanted.blocked,
-            );
-            end::<R, TwoKinds<L, M>>(plan, decision, Ending::Keep);
-            Ok(Tried {
-                pinned,
-                once_more,
-                asked,
-                blocked,
-            })
-        }
-    }
+    let decision = plan.change(wanted.kept)?;
+    let pinned = plan.pack_pinned(wanted.counts, pinned_list, wanted.pin);
+    let once_more = plan.pack_with_rotation(wanted.sides, rotated_list, wanted.one);
+    let asked = ask::<R, TwoKinds<L, M>>(plan, wanted.other, wanted.one);
+    let blocked = block::<R, TwoKinds<L, M>>(plan, wanted.codes, wanted.sequence, wanted.blocked);
+    end::<R, TwoKinds<L, M>>(plan, decision, Ending::Keep);
+    Ok(Tried {
+        pinned,
+        once_more,
+        asked,
+        blocked,
+    })
 }
