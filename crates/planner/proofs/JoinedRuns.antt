@@ -1,5 +1,5 @@
 -- A run of a plan, and then another from where it ended, is one run of both lists of calls.
-use Rattle.std.proofs.Common.{◌≡◌, List, [], ◌∷◌, ◌++◌, sym, subst}
+use Rattle.std.proofs.Common.{List, [], ◌∷◌, ◌++◌, subst}
 use Rattle.plans.specs.Calls.{Told}
 use Rattle.plans.specs.Kinds.{Kind}
 use Rattle.planner.specs.PlanRuns.{Run}
