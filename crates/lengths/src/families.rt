@@ -1,5 +1,5 @@
 // Families of one kind of length and of two.
-ghost use Rattle.lengths.specs.Families.{OfTwo, lengths_of_two, two_kinds};
+ghost use Rattle.lengths.specs.Families.{lengths_of_one, one_kind, OfTwo, lengths_of_two, two_kinds};
 
 use crate::length::Length;
 use plans::Family;
@@ -19,9 +19,9 @@ pub struct TwoKinds<L, M> {
 impl<L: Length> Family for OneKind<L> {
     ghost index = { Unit {0} };
 
-    ghost length_of = { λ kind. L };
+    ghost length_of = { lengths_of_one L };
 
-    ghost kind_of = { λ kind. L.Length.kind };
+    ghost kind_of = { one_kind L.Length.kind };
 }
 
 impl<L: Length, M: Length> Family for TwoKinds<L, M> {

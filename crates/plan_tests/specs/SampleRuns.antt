@@ -2,7 +2,7 @@
 use Rattle.std.specs.Prelude.{ℕ, List, [], ◌∷◌, ◌++◌, Ok, Err, Result}
 use Rattle.lengths.specs.declared.counted.Counted.{Counted}
 use Rattle.lengths.specs.declared.plain.Plain.{Plain}
-use Rattle.lengths.specs.Families.{first, second, lengths_of_two}
+use Rattle.lengths.specs.Families.{lengths_of_one, first_kind, second_kind, lengths_of_two}
 use Rattle.plans.specs.Calls as calls
 use Rattle.plans.specs.Calls.{Told, acts, packs, asks, pack, pack_pinned, pack_with_rotation}
 use Rattle.plans.specs.declared.change.Change.{Change}
@@ -56,11 +56,11 @@ module _ {L M : Type 0} (w : Wanted L M) where
       record { call = acts (calls.change w.kept); answer = Ok tt }
       ∷ record {
         call =
-            packs second (pack_pinned (record { sides = w.counts.now; before = pinned }) w.pin.«module» w.pin.across w.pin.up);
+            packs second_kind (pack_pinned (record { sides = w.counts.now; before = pinned }) w.pin.«module» w.pin.across w.pin.up);
         answer = record { answer = t.pinned; results = pinned' };
       }
       ∷ record {
-        call = packs first (pack_with_rotation (record { sides = w.sides.now; before = rotated }) w.one);
+        call = packs first_kind (pack_with_rotation (record { sides = w.sides.now; before = rotated }) w.one);
         answer = record { answer = t.once_more; results = rotated' };
       }
       ∷ (asked_told w.other w.one t.asked
@@ -71,7 +71,7 @@ abbrev pub packed_told :
     Wanted Plain Counted → List (Placed Plain) → List (Placed Plain) → Result (Chip Plain) PackRefusal
     → Told (lengths_of_two Plain Counted)
 packed_told w list list' r = record {
-  call = packs first (pack (record { sides = w.sides.now; before = list }));
+  call = packs first_kind (pack (record { sides = w.sides.now; before = list }));
   answer = record { answer = r; results = list' };
 }
 
@@ -89,7 +89,7 @@ sample_told w plain plain' pinned pinned' rotated rotated' short short' s =
 -- a load and a packing of a new plan, in one kind of length
 abbrev pub load_and_pack_told :
     {R L : Type 0} {g : Ghosts R} → List ℕ → List ℕ → List (Sides L) → List (Placed L) → List (Placed L) → TwoCalls R L g
-    → List (Told (λ (kind : Unit {0}). L))
+    → List (Told (lengths_of_one L))
 load_and_pack_told codes sequence sides list list' t =
     record { call = acts (calls.load codes sequence); answer = t.loaded }
     ∷ record {

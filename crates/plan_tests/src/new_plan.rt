@@ -1,4 +1,5 @@
 // A load and a packing of a new plan, over any representation and in any kind of length.
+ghost use Rattle.lengths.specs.Families.{one_kind};
 ghost use Rattle.plans.specs.RunKept.{RunKept};
 ghost use Rattle.planner.specs.States.{state_of};
 ghost use Rattle.plan_tests.specs.SampleRuns.{load_and_pack_told};
@@ -24,7 +25,7 @@ pub fn two_calls<R: Representation, L: Length>(
     sides: &[Sides<L>],
     results: &mut [Placed<L>],
 ) -> TwoCalls<R, L>
-    ensures { RunKept (λ (kind : Unit {0}). L.Length.kind) (R.Representation.means representation) (load_and_pack_told codes.now sequence.now sides.now results.old results.new result) (state_of result.plan) }
+    ensures { RunKept (one_kind L.Length.kind) (R.Representation.means representation) (load_and_pack_told codes.now sequence.now sides.now results.old results.new result) (state_of result.plan) }
 {
     plan_law::<R, OneKind<L>>();
     let mut plan = Plan::new(representation);

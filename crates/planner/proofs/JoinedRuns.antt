@@ -7,7 +7,7 @@ use Rattle.planner.specs.declared.plan.Plan.{Plan}
 use Rattle.representations.specs.declared.representation.Representation.{Ghosts}
 
 module _ {R : Type 0} {g : Ghosts R} {I : Type 0} {L : I → Type 0} (K : (kind : I) → Kind (L kind)) where
-  -- two runs, one after the other
+  -- two runs, one after the other; three are told as ts ++ (us ++ vs)
   pub runs_join :
       (first : Plan R g) (ts : List (Told L)) (between : Plan R g) (us : List (Told L)) (last : Plan R g)
       → Run K first ts between → Run K between us last → Run K first (ts ++ us) last

@@ -1,5 +1,6 @@
 -- A call given as data, with its answer and its list before and after, as a link of a run.
 use Rattle.std.specs.Prelude.{◌≡◌, List}
+use Rattle.lengths.specs.Families.{lengths_of_one, one_kind}
 use Rattle.plans.specs.Calls as calls
 use Rattle.plans.specs.Kinds.{Kind}
 use Rattle.plans.specs.declared.measures.Placed.{Placed}
@@ -14,8 +15,8 @@ use Rattle.representations.specs.declared.representation.Representation.{Ghosts}
 
 module _ {R L : Type 0} {g : Ghosts R} (K : Kind L) where
   -- one link of a run whose packings are in one kind of length
-  abbrev pub OneLink : Plan R g → (c : calls.Call (λ (kind : Unit {0}). L)) → calls.AnswerTo c → Plan R g → Type 0
-  OneLink before c told after = Links {L = λ (kind : Unit {0}). L} (λ kind. K) before c told after
+  abbrev pub OneLink : Plan R g → (c : calls.Call (lengths_of_one L)) → calls.AnswerTo c → Plan R g → Type 0
+  OneLink before c told after = Links (one_kind K) before c told after
 
   -- a packing of a plan, with the list before and after it
   abbrev pub PackingLink : Plan R g → (p : calls.Packing L) → calls.PackingOutcome p → Plan R g → Type 0

@@ -1,5 +1,5 @@
 -- Runs of a plan: values of it one after another, each led to from the one before by what a public call promises.
-use Rattle.std.specs.Prelude.{◌≡◌, List, [], ◌∷◌, ◌++◌, Result}
+use Rattle.std.specs.Prelude.{◌≡◌, List, [], ◌∷◌, Result}
 use Rattle.plans.specs.Calls as calls
 use Rattle.plans.specs.Calls.{Act, ActRefusal, Acted, Packing, PackingOutcome, Question, Reply, Call, AnswerTo, Told}
 use Rattle.plans.specs.Kinds.{Kind}

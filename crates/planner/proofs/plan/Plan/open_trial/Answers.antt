@@ -1,5 +1,5 @@
 -- A change that is done notes what was current; a refused one leaves everything.
-use Rattle.std.proofs.Common.{◌≡◌, ℕ, false, is_some, Some, Ok}
+use Rattle.std.proofs.Common.{◌≡◌, false, is_some, Some, Ok}
 use Rattle.std.specs.Option.{option_map}
 use Rattle.module_set.specs.Members.{member}
 use Rattle.plans.proofs.PublishedLoad.{feasible_published}
@@ -10,7 +10,7 @@ use Rattle.plans.specs.declared.change.Change.{Change}
 use Rattle.planner.proofs.ModelSteps.{not_open, change_done}
 use Rattle.planner.proofs.StepsInWords.{change_edges, act_rotations}
 use Rattle.planner.specs.Calls.{Steps}
-use Rattle.planner.specs.Layouts.{Rotates, layout_of, noted_layout, state_in}
+use Rattle.planner.specs.Layouts.{Rotates, layout_of, noted_layout}
 use Rattle.planner.specs.States.{state_of}
 use Rattle.planner.specs.declared.current.Current.{Current}
 use Rattle.planner.specs.declared.noted.Noted.{Noted}
