@@ -5,12 +5,14 @@ use crate::length::Length;
 use plans::Family;
 use std::marker::PhantomData;
 
-/// The family of one kind of length. It only names the kind: no value of it is ever asked for.
+/// The family of one kind of length, of which the one index is `tt`. It only names the kind: no value of it is ever asked
+/// for. `one_lawful` of `Families` says that it is lawful.
 pub struct OneKind<L> {
     lengths: PhantomData<L>,
 }
 
-/// The family of two kinds of length.
+/// The family of two kinds of length, by the indices `first_kind` and `second_kind`. `two_lawful` of `Families` says that
+/// it is lawful.
 pub struct TwoKinds<L, M> {
     first: PhantomData<L>,
     second: PhantomData<M>,

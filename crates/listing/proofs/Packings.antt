@@ -1,9 +1,10 @@
 -- A packing in counted lengths prints what the definition says, in their numbers.
+use Rattle.plans.specs.Packing.{at_origin}
 use Rattle.std.proofs.Common.{◌≡◌, ℕ, zero, suc, List, ◌∷◌, map, replicate, Result, sym, refl, ap, ◌∙◌}
 use Rattle.lengths.specs.OfferedLemmas.{count_carries}
 use Rattle.lengths.specs.CountedLengths.{count_of, counted_lengths}
 use Rattle.lengths.specs.declared.counted.Counted.{Counted}
-use Rattle.listing.specs.PackLines.{pack_lines, packed_lines, unplaced}
+use Rattle.listing.specs.PackLines.{pack_lines, packed_lines}
 use Rattle.packing.specs.Calls.{Packs}
 use Rattle.plans.proofs.CarriedPackings.{packs_carried}
 use Rattle.plans.specs.CarriedPackings.{carry_outcome, carry_placed, carry_sides}
@@ -26,7 +27,7 @@ map_replicate f x (suc n) = ap (λ ys. f x ∷ ys) (map_replicate f x n)
 
 pub pack_listed :
     (s : State) (sides : List (Sides Counted)) (before after : List (Placed Counted)) (answer : Result (Chip Counted) PackRefusal)
-    → map (carry_placed count_of) before ≡ replicate 64 unplaced
+    → map (carry_placed count_of) before ≡ replicate 64 (at_origin counted_kind)
     → Packs counted_lengths (task_at s sides) before answer after
     → pack_lines s (map (carry_sides count_of) sides)
     ≡ packed_lines s.current.plan.size (in_numbers answer after).results (in_numbers answer after).answer

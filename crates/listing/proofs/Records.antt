@@ -1,11 +1,12 @@
 -- The lines of one module more, from a result list in counted lengths.
+use Rattle.plans.specs.Packing.{at_origin}
 use Rattle.std.proofs.Common.{◌≡◌, ℕ, zero, suc, ◌+◌, ◌<◌, ◌≤◌, List, ◌++◌, map, length, get_or, take, sym, refl, ap, ◌∙◌, append-nil, add-one, arith}
 use Rattle.lengths.specs.CountedLengths.{count_of}
 use Rattle.lengths.specs.declared.counted.Counted.{Counted}
 use Rattle.listing.specs.Line.{chip_line, edge_line, module_line}
-use Rattle.listing.specs.PackLines.{chip_lines, record_line, record_lines, unplaced}
+use Rattle.listing.specs.PackLines.{chip_lines, record_line, record_lines}
 use Rattle.plans.specs.CarriedPackings.{carry_placed}
-use Rattle.plans.specs.Kinds.{Count}
+use Rattle.plans.specs.Kinds.{Count, counted_kind}
 use Rattle.plans.specs.declared.measures.Chip.{Chip}
 use Rattle.plans.specs.declared.measures.Placed.{Placed}
 use Rattle.std.proofs.lemmas.List.{get_or-map, get_or-take, length-take-le, take-map, append_assoc}
@@ -29,8 +30,8 @@ pub records_more :
     ≡ record_lines i (map (carry_placed count_of) results) ++ module_line i p.left.length p.bottom.length
 records_more results i p h e =
     let counted = map (carry_placed count_of) results in
-    let f : ℕ → List ℕ = λ k. record_line k (get_or counted k unplaced) in
-    let at : get_or counted i unplaced ≡ carry_placed count_of p = get_or-map (carry_placed count_of) results i p unplaced h ∙ ap (carry_placed count_of) (sym e) in
+    let f : ℕ → List ℕ = λ k. record_line k (get_or counted k (at_origin counted_kind)) in
+    let at : get_or counted i (at_origin counted_kind) ≡ carry_placed count_of p = get_or-map (carry_placed count_of) results i p (at_origin counted_kind) h ∙ ap (carry_placed count_of) (sym e) in
     let zeros : 0 + i ≡ i = omega arith in
     ap (λ n. flat_map f (range_with_len 0 n)) (add-one i)
     ∙ joined_counting_more f 0 i
@@ -41,9 +42,9 @@ records_more results i p h e =
 front_lines : (rs : List (Placed Count)) (n m : ℕ) → m ≤ n → record_lines m (take n rs) ≡ record_lines m rs
 front_lines rs n zero h = refl
 front_lines rs n (suc m) h =
-    let line : List (Placed Count) → ℕ → List ℕ = λ xs k. record_line k (get_or xs k unplaced) in
+    let line : List (Placed Count) → ℕ → List ℕ = λ xs k. record_line k (get_or xs k (at_origin counted_kind)) in
     joined_counting_more (line (take n rs)) 0 m
-    ∙ (λ i. front_lines rs n m (omega arith) i ++ record_line (0 + m) (get_or-take n rs (0 + m) unplaced (omega arith) i))
+    ∙ (λ i. front_lines rs n m (omega arith) i ++ record_line (0 + m) (get_or-take n rs (0 + m) (at_origin counted_kind) (omega arith) i))
     ∙ sym (joined_counting_more (line rs) 0 m)
 
 -- so are the lines of a done packing

@@ -12,17 +12,13 @@ use Rattle.plans.specs.declared.measures.Sides.{Sides}
 use Rattle.plans.specs.declared.pack_refusals.PackRefusal.{PackRefusal}
 use Rattle.std.specs.List.{range_with_len, flat_map}
 
--- A module at the origin: what stands in a result list before a packing.
-abbrev pub unplaced : Placed Count
-unplaced = at_origin counted_kind
-
 -- The line of one module by its record.
 abbrev pub record_line : ℕ → Placed Count → List ℕ
 record_line i p = module_line i p.left.long p.bottom.long
 
 -- The lines of modules 0 to m - 1 by their records.
 abbrev pub record_lines : ℕ → List (Placed Count) → List ℕ
-record_lines m results = flat_map (λ i. record_line i (slice_index_or results i unplaced)) (range_with_len 0 m)
+record_lines m results = flat_map (λ i. record_line i (slice_index_or results i (at_origin counted_kind))) (range_with_len 0 m)
 
 -- The chip, the modules and the borders.
 abbrev pub chip_lines : ℕ → List (Placed Count) → Chip Count → List ℕ
@@ -38,7 +34,7 @@ packed_lines m results (Err e) = word_line (codes "PACK") (number_of_pack e)
 
 -- What a packing of a state gives, in counted lengths, with room for 64 modules.
 abbrev pub packing_at : State → List (Sides Count) → Outcome Count PackRefusal
-packing_at s sides = after_pack counted_kind (task_at s sides) (replicate 64 unplaced)
+packing_at s sides = after_pack counted_kind (task_at s sides) (replicate 64 (at_origin counted_kind))
 
 -- What PACK prints at a state.
 abbrev pub pack_lines : State → List (Sides Count) → List ℕ

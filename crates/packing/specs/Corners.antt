@@ -22,7 +22,7 @@ module _ {L : Type 0} (K : Kind L) where
   abbrev pub corner_at_most : Corner L → Corner L → Bool
   corner_at_most a b = K.at_most a.across b.across && K.at_most a.up b.up
 
-  -- a far corner moved out to hold a placed module
+  -- a far corner moved out to hold a placed module: the chip's end, not where the next module may begin
   abbrev pub moved_out : Corner L → Placed L → Corner L
   moved_out far placed = later_corner far (record { across = placed.right; up = placed.top })
 

@@ -2,7 +2,13 @@
 use Rattle.std.specs.Prelude.{ℕ, List, [], ◌∷◌, ◌++◌, Ok, Err, Result}
 use Rattle.lengths.specs.declared.counted.Counted.{Counted}
 use Rattle.lengths.specs.declared.plain.Plain.{Plain}
-use Rattle.lengths.specs.Families.{lengths_of_one, first_kind, second_kind, lengths_of_two}
+use Rattle.lengths.specs.CountedLengths.{counted_lengths}
+use Rattle.lengths.specs.Families.{lengths_of_one, first_kind, second_kind, lengths_of_two, two_kinds}
+use Rattle.lengths.specs.PlainLengths.{plain_lengths}
+use Rattle.plans.specs.RunKept.{RunKept}
+use Rattle.plans.specs.Tables.{no_modules}
+use Rattle.plans.specs.Transposed.{transpose}
+use Rattle.planner.specs.States.{state_of}
 use Rattle.plans.specs.Calls as calls
 use Rattle.plans.specs.Calls.{Told, acts, packs, asks, pack, pack_pinned, pack_with_rotation}
 use Rattle.plans.specs.declared.change.Change.{Change}
@@ -26,7 +32,7 @@ module _ {I : Type 0} {L : I → Type 0} where
   -- the three questions
   abbrev pub asked_told : ℕ → ℕ → Asked → List (Told L)
   asked_told i j a =
-      record { call = asks (calls.code_at i j); answer = a.code }
+      record { call = asks (calls.code_between i j); answer = a.code }
       ∷ record { call = asks (calls.whether_rotated i); answer = a.rotated }
       ∷ record { call = asks calls.whether_on_trial; answer = a.on_trial } ∷ []
 
@@ -60,10 +66,10 @@ module _ {L M : Type 0} (w : Wanted L M) where
         answer = record { answer = t.pinned; results = pinned' };
       }
       ∷ record {
-        call = packs first_kind (pack_with_rotation (record { sides = w.sides.now; before = rotated }) w.one);
+        call = packs first_kind (pack_with_rotation (record { sides = w.sides.now; before = rotated }) w.looked);
         answer = record { answer = t.once_more; results = rotated' };
       }
-      ∷ (asked_told w.other w.one t.asked
+      ∷ (asked_told w.asked w.looked t.asked
       ++ (blocked_told w.codes.now w.sequence.now w.blocked t.blocked ++ end_told Keep))
 
 -- a packing alone, in plain lengths
@@ -85,6 +91,14 @@ sample_told w plain plain' pinned pinned' rotated rotated' short short' s =
     ∷ packed_told w plain plain' s.packed
     ∷ (tried_told w pinned pinned' rotated rotated' s.tried
     ++ (undone_told w.undone s.undone ++ packed_told w short short' s.short ∷ []))
+
+-- the law's record of the whole run
+abbrev pub SampleKept :
+    Wanted Plain Counted → List (Placed Plain) → List (Placed Plain) → List (Placed Counted) → List (Placed Counted)
+    → List (Placed Plain) → List (Placed Plain) → List (Placed Plain) → List (Placed Plain) → Sample → Type 0
+SampleKept w plain plain' pinned pinned' rotated rotated' short short' s =
+    RunKept (two_kinds plain_lengths counted_lengths) (transpose no_modules)
+    (sample_told w plain plain' pinned pinned' rotated rotated' short short' s) (state_of s.plan)
 
 -- a load and a packing of a new plan, in one kind of length
 abbrev pub load_and_pack_told :

@@ -1,13 +1,6 @@
 // A run of a plan over a layer, with packings in two kinds of length.
-ghost use Rattle.lengths.specs.CountedLengths.{counted_lengths};
-ghost use Rattle.lengths.specs.Families.{two_kinds};
-ghost use Rattle.lengths.specs.PlainLengths.{plain_lengths};
-ghost use Rattle.plans.specs.RunKept.{RunKept};
-ghost use Rattle.plans.specs.Tables.{no_modules};
-ghost use Rattle.plans.specs.Transposed.{transpose};
 ghost use Rattle.planner.specs.PlanRuns.{Run};
-ghost use Rattle.planner.specs.States.{state_of};
-ghost use Rattle.plan_tests.specs.SampleRuns.{undone_told, sample_told};
+ghost use Rattle.plan_tests.specs.SampleRuns.{undone_told, SampleKept};
 
 use crate::ending::{Ending, end};
 use crate::trial::{Tried, try_and_keep};
@@ -51,7 +44,7 @@ pub fn sample_run(
     rotated_list: &mut [Placed<Plain>],
     short_list: &mut [Placed<Plain>],
 ) -> Sample
-    ensures { RunKept (two_kinds plain_lengths counted_lengths) (transpose no_modules) (sample_told wanted.now plain_list.old plain_list.new pinned_list.old pinned_list.new rotated_list.old rotated_list.new short_list.old short_list.new result) (state_of result.plan) }
+    ensures { SampleKept wanted.now plain_list.old plain_list.new pinned_list.old pinned_list.new rotated_list.old rotated_list.new short_list.old short_list.new result }
 {
     let mut plan = Plan::over::<TwoKinds<Plain, Counted>>(Transposed(SequencePair::new()));
     let loaded = plan.load(wanted.codes, wanted.sequence);

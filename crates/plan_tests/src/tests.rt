@@ -50,8 +50,8 @@ fn wanted(counts: &[Sides<Counted>], kept: Change, undone: Change) -> Wanted<'_,
             across: counted(4),
             up: Counted::ZERO,
         },
-        one: 2,
-        other: 0,
+        looked: 2,
+        asked: 0,
     }
 }
 

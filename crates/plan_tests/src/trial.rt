@@ -74,8 +74,8 @@ pub(crate) fn try_and_keep<R: Representation, L: Length, M: Length>(
 {
     let decision = plan.change(wanted.kept)?;
     let pinned = plan.pack_pinned(wanted.counts, pinned_list, wanted.pin);
-    let once_more = plan.pack_with_rotation(wanted.sides, rotated_list, wanted.one);
-    let asked = ask::<R, TwoKinds<L, M>>(plan, wanted.other, wanted.one);
+    let once_more = plan.pack_with_rotation(wanted.sides, rotated_list, wanted.looked);
+    let asked = ask::<R, TwoKinds<L, M>>(plan, wanted.asked, wanted.looked);
     let blocked = block::<R, TwoKinds<L, M>>(plan, wanted.codes, wanted.sequence, wanted.blocked);
     end::<R, TwoKinds<L, M>>(plan, decision, Ending::Keep);
     Ok(Tried {

@@ -17,7 +17,7 @@ pub struct Wanted<'a, L, M> {
     pub undone: Change,
     pub pin: Pin<M>,
     /// rotated once more in a packing
-    pub one: usize,
-    /// asked about: its code to the one, and whether it is rotated
-    pub other: usize,
+    pub looked: usize,
+    /// asked about: its code to `looked`, and whether it is rotated
+    pub asked: usize,
 }

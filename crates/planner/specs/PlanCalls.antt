@@ -10,7 +10,7 @@ use Rattle.planner.specs.declared.plan.Plan.{Plan}
 use Rattle.planner.specs.declared.plan_call.PlanAnswer.{PlanAnswer}
 use Rattle.planner.specs.declared.plan_call.PlanAnswer.TheVariants as answers
 use Rattle.planner.specs.declared.plan_call.PlanCall.{PlanCall}
-use Rattle.planner.specs.declared.plan_call.PlanCall.TheVariants as given
+use Rattle.planner.specs.declared.plan_call.PlanCall.TheVariants as wanted
 use Rattle.representations.specs.declared.representation.Representation.{Ghosts}
 
 module _ {R L : Type 0} {g : Ghosts R} (K : Kind L) where
@@ -24,27 +24,27 @@ module _ {R L : Type 0} {g : Ghosts R} (K : Kind L) where
 
   -- the call is made, and what is no packing leaves the list; no call has the answer of another
   abbrev pub Performs : Plan R g → PlanCall L → List (Placed L) → PlanAnswer L → List (Placed L) → Plan R g → Type 0
-  Performs p (given.Load codes sequence) before (answers.Loaded r) after q =
+  Performs p (wanted.Load codes sequence) before (answers.Loaded r) after q =
       OneLink p (calls.acts (calls.load codes.now sequence.now)) r q × (after ≡ before)
-  Performs p (given.Change c) before (answers.Changed r) after q =
+  Performs p (wanted.Change c) before (answers.Changed r) after q =
       OneLink p (calls.acts (calls.change c)) (without_decision r) q × (after ≡ before)
-  Performs p (given.Keep d) before (answers.Kept r) after q =
+  Performs p (wanted.Keep d) before (answers.Kept r) after q =
       OneLink p (calls.acts calls.keep) (without_return r) q × (after ≡ before)
-  Performs p (given.Undo d) before (answers.Undone r) after q =
+  Performs p (wanted.Undo d) before (answers.Undone r) after q =
       OneLink p (calls.acts calls.undo) (without_return r) q × (after ≡ before)
-  Performs p (given.Pack sides) before (answers.Packed r) after q =
+  Performs p (wanted.Pack sides) before (answers.Packed r) after q =
       PackingLink p (calls.pack (record { sides = sides.now; before = before })) (record { answer = r; results = after }) q
-  Performs p (given.PackPinned sides pin) before (answers.PackedPinned r) after q =
+  Performs p (wanted.PackPinned sides pin) before (answers.PackedPinned r) after q =
       PackingLink p (calls.pack_pinned (record { sides = sides.now; before = before }) pin.«module» pin.across pin.up)
       (record { answer = r; results = after }) q
-  Performs p (given.PackWithRotation sides a) before (answers.PackedRotated r) after q =
+  Performs p (wanted.PackWithRotation sides a) before (answers.PackedRotated r) after q =
       PackingLink p (calls.pack_with_rotation (record { sides = sides.now; before = before }) a)
       (record { answer = r; results = after }) q
-  Performs p given.Modules before (answers.HasModules n) after q = OneLink p (calls.asks calls.how_many) n q × (after ≡ before)
-  Performs p (given.Code i j) before (answers.HasCode n) after q = OneLink p (calls.asks (calls.code_at i j)) n q × (after ≡ before)
-  Performs p (given.ModuleAt place) before (answers.HasModule o) after q =
+  Performs p wanted.Modules before (answers.HasModules n) after q = OneLink p (calls.asks calls.how_many) n q × (after ≡ before)
+  Performs p (wanted.Code i j) before (answers.HasCode n) after q = OneLink p (calls.asks (calls.code_between i j)) n q × (after ≡ before)
+  Performs p (wanted.ModuleAt place) before (answers.HasModule o) after q =
       OneLink p (calls.asks (calls.module_in place)) o q × (after ≡ before)
-  Performs p (given.IsRotated a) before (answers.Rotated b) after q =
+  Performs p (wanted.IsRotated a) before (answers.Rotated b) after q =
       OneLink p (calls.asks (calls.whether_rotated a)) b q × (after ≡ before)
-  Performs p given.IsOnTrial before (answers.OnTrial b) after q = OneLink p (calls.asks calls.whether_on_trial) b q × (after ≡ before)
+  Performs p wanted.IsOnTrial before (answers.OnTrial b) after q = OneLink p (calls.asks calls.whether_on_trial) b q × (after ≡ before)
   Performs p _ before _ after q = ⊥

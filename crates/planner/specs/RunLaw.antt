@@ -16,7 +16,7 @@ module _ {I : Type 0} {L : I → Type 0} (K : (kind : I) → Kind (L kind)) {R :
   abbrev pub EveryRun : Floorplan → Plan R g → Type 0
   EveryRun made first = (told : List (Told L)) (now : Plan R g) → Run K first told now → RunKept K made told (state_of now)
 
-  -- the law of a plan: so it is in lawful kinds
+  -- the law of a plan: so it is if the kinds are lawful
   abbrev pub RunLaw : Floorplan → Plan R g → Type 0
   RunLaw made first = ((kind : I) → Lawful (K kind)) → EveryRun made first
 

@@ -1,6 +1,6 @@
 // What one may ask of a plan, and how it ends.
 ghost use Rattle.std.specs.Prelude.{◌≡◌};
-ghost use Rattle.plans.specs.Calls.{how_many, code_at, module_in, whether_rotated, whether_on_trial};
+ghost use Rattle.plans.specs.Calls.{how_many, code_between, module_in, whether_rotated, whether_on_trial};
 ghost use Rattle.planner.specs.Calls.{Replies};
 ghost use Rattle.planner.specs.States.{state_of};
 
@@ -18,7 +18,7 @@ impl<R: Representation> Plan<R> {
 
     /// 1 where i is left of j, 2 where i is below j, else 0, also outside the plan: the byte that a load takes.
     pub fn code(&self, i: usize, j: usize) -> u8
-        ensures { Replies self.now (code_at i j) result }
+        ensures { Replies self.now (code_between i j) result }
     {
         self.current.representation.code(i, j)
     }
@@ -44,7 +44,7 @@ impl<R: Representation> Plan<R> {
         self.trial.is_some()
     }
 
-    /// Ends the plan and gives its representation.
+    /// Ends the plan and gives its representation. The change of an open trial stays in it, and its decision at hand.
     pub fn into_representation(self) -> R
         ensures { R.Representation.means result ≡ (state_of self).current.plan }
     {

@@ -12,7 +12,8 @@ pub struct Decision {
     open: (),
 }
 
-/// A keep or an undo that is refused, which hands the decision back. It is held to the same by the decision in it.
+/// A keep or an undo that is refused, which hands the decision back. With the decision in it, it can't be let go or
+/// copied either.
 pub struct Undecided {
     pub refusal: TrialRefusal,
     pub decision: Decision,

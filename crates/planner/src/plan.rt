@@ -29,10 +29,10 @@ impl<R: Representation> Plan<R> {
         Plan::over::<Brand>(representation)
     }
 
-    /// The same, with the law of its runs in a family of kinds of length. Whatever is called of the plan from then on, in
-    /// any number and order, accepted or refused, with packings in any of these kinds: it stays a floorplan as
-    /// published, each packing shows the least placement, and the plan, every answer and every result list are those of
-    /// the model.
+    /// The same, with the law of its runs in a family of kinds of length, if these are lawful, which each kind is by
+    /// `Length`'s law `lawful`. Whatever is called of the plan from then on, in any number and order, accepted or refused,
+    /// with packings in any of these kinds: it stays a floorplan as published, each packing shows the least placement,
+    /// and the plan, every answer and every result list are those of the model.
     pub fn over<F: Family>(representation: R) -> Plan<R>
         ensures made { Makes (R.Representation.means representation) result }
         ensures law { RunLaw F.Family.kind_of (R.Representation.means representation) result }

@@ -11,7 +11,8 @@ use plans::{
 };
 use representations::Representation;
 
-/// A call with its arguments, named as the method that makes it; a packing also has the result list.
+/// A call with its arguments, named as the method that makes it. A packing's result list is handed to `Plan::perform`
+/// beside it.
 pub enum PlanCall<'a, L> {
     /// a table of codes, row after row, and its packing sequence
     Load(&'a [u8], &'a [usize]),

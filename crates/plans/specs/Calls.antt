@@ -52,7 +52,7 @@ PackingOutcome {L} (pack_with_rotation h a) = Outcome L RotationRefusal
 -- module is rotated, whether a trial is open
 pub data Question : Type 0 where
   how_many : Question
-  code_at : ℕ → ℕ → Question
+  code_between : ℕ → ℕ → Question
   module_in : ℕ → Question
   whether_rotated : ℕ → Question
   whether_on_trial : Question
@@ -60,7 +60,7 @@ pub data Question : Type 0 where
 -- what each tells
 abbrev pub Reply : Question → Type 0
 Reply how_many = ℕ
-Reply (code_at i j) = ℕ
+Reply (code_between i j) = ℕ
 Reply (module_in place) = Option ℕ
 Reply (whether_rotated a) = Bool
 Reply whether_on_trial = Bool

@@ -10,7 +10,7 @@ use Rattle.plans.specs.declared.change.Change.{Change}
 abbrev pub AdmitsPublished : {E : Type 0} → State → List ℕ → List ℕ → Result (Unit {0}) E → Type 0
 AdmitsPublished before codes sequence answer = before.noted ≡ None → ((answer ≡ Ok tt) ↔ Published (given codes sequence))
 
--- an accepted change gives and takes the edges that it is to
+-- after an accepted change each graph has gained and lost the edges that the change's words say
 abbrev pub ChangesEdges : {E : Type 0} → State → State → Change → Result (Unit {0}) E → Type 0
 ChangesEdges before after c answer = answer ≡ Ok tt → ChangeWords before.current.plan after.current.plan c
 

@@ -41,3 +41,4 @@ pub mod CallsInWords
 pub mod PlanRefusals
 pub mod Shortcuts
 pub mod Worked
+pub mod WorkedRuns

@@ -5,7 +5,7 @@ use Rattle.plans.specs.Model.{State, Layout, made_of}
 use Rattle.plans.specs.ModelRuns.{after_calls}
 use Rattle.plans.specs.Tables.{Floorplan, Feasible}
 
--- what was noted, if a trial is open, passes
+-- a fact of what was noted, if a trial is open
 abbrev pub WhatNoted : (Layout → Type 0) → Option Layout → Type 0
 WhatNoted Passes noted = (l : Layout) → noted ≡ Some l → Passes l
 

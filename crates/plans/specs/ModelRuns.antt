@@ -1,6 +1,6 @@
 -- The model's answer to every call, and the model folded over runs of calls.
 use Rattle.std.specs.Prelude.{is_some, List, [], ◌∷◌}
-use Rattle.plans.specs.Calls.{Act, load, change, keep, undo, ActRefusal, Packing, pack, pack_pinned, pack_with_rotation, PackingOutcome, Question, how_many, code_at, module_in, whether_rotated, whether_on_trial, Reply, Call, acts, packs, asks, AnswerTo, Told}
+use Rattle.plans.specs.Calls.{Act, load, change, keep, undo, ActRefusal, Packing, pack, pack_pinned, pack_with_rotation, PackingOutcome, Question, how_many, code_between, module_in, whether_rotated, whether_on_trial, Reply, Call, acts, packs, asks, AnswerTo, Told}
 use Rattle.plans.specs.Kinds.{Kind}
 use Rattle.plans.specs.Model.{State, Step, model_load, model_change, model_keep, model_undo, task_at}
 use Rattle.plans.specs.PackingCalls.{after_pack, after_pack_pinned, after_pack_rotated}
@@ -22,7 +22,7 @@ model_packing K s (pack_with_rotation h a) = after_pack_rotated K (task_at s h.s
 -- the reply to a question
 abbrev pub model_reply : State → (q : Question) → Reply q
 model_reply s how_many = s.current.plan.size
-model_reply s (code_at i j) = table_in s.current.plan i j
+model_reply s (code_between i j) = table_in s.current.plan i j
 model_reply s (module_in place) = module_at s.current.plan place
 model_reply s (whether_rotated a) = s.current.rotated a
 model_reply s whether_on_trial = is_some s.noted

@@ -26,9 +26,9 @@ module _ {I : Type 0} {L : I → Type 0} (K : (kind : I) → Kind (L kind)) wher
     pub published :
         (earlier later : List (Told L)) → told ≡ earlier ++ later → Published (accounted made earlier).current.plan
     -- a packing that answers a chip, of the plan that the calls before it account for, shows a placement that keeps the
-    -- relations and the pin, in which no two modules overlap, and which is least among all within the limit that keep
-    -- them with those sides and rotations; "no place" is answered exactly where no earlier refusal applies and there is
-    -- none, and the list then shows the least placement without the pin
+    -- relations and the pin, in which no two modules overlap, and which is least among all within the limit of extent
+    -- 10,000,000 that keep them with those sides and rotations; "no place" is answered exactly where no earlier refusal
+    -- applies and there is none, and the list then shows the least placement without the pin
     pub packed :
         (earlier later : List (Told L)) (kind : I) (p : Packing (L kind)) (outcome : PackingOutcome p)
         → told ≡ earlier ++ (record { call = packs kind p; answer = outcome } ∷ later)
@@ -36,7 +36,8 @@ module _ {I : Type 0} {L : I → Type 0} (K : (kind : I) → Kind (L kind)) wher
     -- the plan is what it was made over or the last accepted load, then the changes kept since, then the one on trial,
     -- by the answers that were given
     pub account : now ≡ accounted made told
-    -- its table, sequence, rotated modules and open trial are those of the model, which is told the calls alone
+    -- its table, sequence, rotated modules and open trial are those of the model, which is told the floorplan at the
+    -- making and the calls alone
     pub state : now ≡ after_calls (made_of made) (calls_of told)
     -- and so is every answer and every result list
     pub answers : told ≡ model_told K (made_of made) (calls_of told)

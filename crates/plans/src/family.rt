@@ -13,8 +13,8 @@ pub trait Family {
     ghost kind_of: { (kind : index) → Kind (length_of kind) };
 }
 
-/// No kinds at all, so a law of runs in it says nothing of packings, unless the proof of the call that passes `Brand`
-/// picks another family.
+/// The family of no kinds, for a call that names none: a law of runs in it says nothing of packings. The proof of a call
+/// that passes `Brand` may pick other ghost members; where it picks none, they are these.
 impl Family for Brand {
     ghost index = { ⊥ };
 

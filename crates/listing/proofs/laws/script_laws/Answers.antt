@@ -1,9 +1,9 @@
 -- Each part is a law of the model or of packings, at the states of a script.
+use Rattle.plans.specs.Packing.{at_origin}
 use Rattle.listing.proofs.Packings.{map_replicate}
 use Rattle.listing.proofs.ScriptEnds.{runs_to_its_end}
 use Rattle.listing.proofs.laws.script_laws.Goals as goal
 use Rattle.listing.specs.CommandLines.{state_after}
-use Rattle.listing.specs.PackLines.{unplaced}
 use Rattle.listing.specs.PrintedPackings.{PrintedPackings}
 use Rattle.plans.proofs.CarriedPackings.{packs_carried, long_carries}
 use Rattle.plans.proofs.KindLaws.{join_laws, counted_lawful}
@@ -31,11 +31,11 @@ packings =
       feasible = stays_feasible;
       least = λ s sides chip f e.
           pack_answers counted_kind counted_lawful.sum (join_laws counted_kind counted_lawful) (task_at s sides) f.current
-          (replicate 64 unplaced) chip e;
+          (replicate 64 (at_origin counted_kind)) chip e;
       plain = λ s sides.
-          sym ((packs_carried counted_kind plain_kind (λ a. a.long) long_carries).pack (task_at s sides) (replicate 64 unplaced))
+          sym ((packs_carried counted_kind plain_kind (λ a. a.long) long_carries).pack (task_at s sides) (replicate 64 (at_origin counted_kind)))
           ∙ ap (after_pack plain_kind (carry_task (λ a. a.long) (task_at s sides)))
-          (map_replicate (carry_placed (λ a. a.long)) unplaced 64);
+          (map_replicate (carry_placed (λ a. a.long)) (at_origin counted_kind) 64);
     }
 
 pub returns : goal.returns

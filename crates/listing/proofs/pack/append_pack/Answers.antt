@@ -1,11 +1,13 @@
 -- What is appended is what the packing prints, in the numbers of its lengths.
+use Rattle.plans.specs.Kinds.{counted_kind}
+use Rattle.plans.specs.Packing.{at_origin}
 use Rattle.lengths.specs.CountedLengths.{count_of, counted_lengths}
 use Rattle.lengths.specs.declared.counted.Counted.{Counted}
 use Rattle.listing.proofs.Packings.{in_numbers, map_replicate, pack_listed}
 use Rattle.listing.proofs.Records.{front_packed}
 use Rattle.listing.proofs.pack.append_pack.Goals as goal
 use Rattle.listing.specs.Bordered.{in_counts}
-use Rattle.listing.specs.PackLines.{pack_lines, packed_lines, unplaced}
+use Rattle.listing.specs.PackLines.{pack_lines, packed_lines}
 use Rattle.packing.specs.Calls.{Packs}
 use Rattle.planner.specs.States.{state_of}
 use Rattle.plans.specs.CarriedPackings.{carry_chip, carry_placed}
@@ -19,7 +21,7 @@ use Rattle.std.proofs.Common.{◌≡◌, ◌≤◌, List, length, replicate, Ok,
 
 -- what a packing lists, into 64 results that are at the origin
 listed : (s : State) (sides : List (Sides Counted)) (nowhere : Placed Counted) (after : List (Placed Counted)) (answer : Result (Chip Counted) PackRefusal)
-    → carry_placed count_of nowhere ≡ unplaced → Packs counted_lengths (task_at s sides) (replicate 64 nowhere) answer after
+    → carry_placed count_of nowhere ≡ (at_origin counted_kind) → Packs counted_lengths (task_at s sides) (replicate 64 nowhere) answer after
     → pack_lines s (in_counts sides)
     ≡ packed_lines s.current.plan.size (in_numbers answer after).results (in_numbers answer after).answer
 listed s sides nowhere after answer is packs =

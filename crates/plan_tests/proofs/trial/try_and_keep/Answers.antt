@@ -18,7 +18,7 @@ returns g c =
     let w = c.args.wanted.now in
     let p = c.change.new.self in
     let q = c.block-blocked.new.plan in
-    let asked = asked_told w.other w.one c.ask-asked.result in
+    let asked = asked_told w.asked w.looked c.ask-asked.result in
     let blocked = blocked_told w.codes.now w.sequence.now w.blocked c.block-blocked.result in (
       p,
       (Ok c.in_ok-decision.decision, refl, c.in_ok-decision.ensures.model),
