@@ -97,47 +97,55 @@ fn is_settled(sample: &Sample, rotated: bool) -> bool {
         && !sample.plan.is_on_trial()
 }
 
+// The sample run with these two changes, and its lists after it.
+#[derive(Drop)]
+struct SampleRun {
+    sample: Sample,
+    plain: [Placed<Plain>; 3],
+    pinned: [Placed<Counted>; 3],
+    rotated: [Placed<Plain>; 3],
+}
+
+// Runs it, with this list for the last packing.
+fn run_sample(kept: Change, undone: Change, last: &mut [Placed<Plain>]) -> SampleRun {
+    let counts = counted_sides();
+    let wanted = wanted(&counts, kept, undone);
+    let (mut plain, mut rotated) = ([unplaced(); 3], [unplaced(); 3]);
+    let mut pinned = [unplaced(); 3];
+    let sample = sample_run(&wanted, &mut plain, &mut pinned, &mut rotated, last);
+    SampleRun {
+        sample,
+        plain,
+        pinned,
+        rotated,
+    }
+}
+
 // Module 0 is rotated and kept so, a swap is undone, and a list of two is too short.
 #[test]
 fn changes_are_done(rt: HostRuntime) {
-    let counts = counted_sides();
-    let wanted = wanted(&counts, Change::Rotate(0), Change::Swap(0, 2));
-    let (mut plain, mut rotated) = ([unplaced(); 3], [unplaced(); 3]);
-    let mut pinned = [unplaced(); 3];
-    let sample = sample_run(
-        &wanted,
-        &mut plain,
-        &mut pinned,
-        &mut rotated,
-        &mut [unplaced(); 2],
-    );
-    assert!(rt; sample.loaded.is_ok() && is_chip(&sample.packed, 7, 4, 28));
-    assert!(rt; is_placed(&plain[1], 4, 0, 7, 3) && is_placed(&plain[2], 0, 3, 5, 4));
-    assert!(rt; sample.tried.as_ref().is_ok_and(is_tried_well));
-    assert!(rt; is_placed(&pinned[1], 4, 0, 7, 3) && is_placed(&pinned[2], 0, 4, 5, 5));
-    assert!(rt; is_placed(&rotated[1], 2, 0, 5, 3) && is_placed(&rotated[2], 0, 4, 1, 9));
-    assert!(rt; sample.undone.is_ok() && refusal(&sample.short) == Some(41));
-    assert!(rt; is_settled(&sample, true));
+    let run = run_sample(Change::Rotate(0), Change::Swap(0, 2), &mut [unplaced(); 2]);
+    assert!(rt; run.sample.loaded.is_ok() && is_chip(&run.sample.packed, 7, 4, 28));
+    assert!(rt; is_placed(&run.plain[1], 4, 0, 7, 3) && is_placed(&run.plain[2], 0, 3, 5, 4));
+    assert!(rt; run.sample.tried.as_ref().is_ok_and(is_tried_well));
+    assert!(rt; is_placed(&run.pinned[1], 4, 0, 7, 3) && is_placed(&run.pinned[2], 0, 4, 5, 5));
+    assert!(rt; is_placed(&run.rotated[1], 2, 0, 5, 3) && is_placed(&run.rotated[2], 0, 4, 1, 9));
+    assert!(rt; run.sample.undone.is_ok() && refusal(&run.sample.short) == Some(41));
+    assert!(rt; is_settled(&run.sample, true));
 }
 
 // Two changes that the floorplan refuses: the same module twice, and an edge that is none.
 #[test]
 fn changes_are_refused(rt: HostRuntime) {
-    let counts = counted_sides();
-    let wanted = wanted(&counts, Change::Swap(1, 1), Change::Reverse(2, 0));
-    let (mut plain, mut rotated) = ([unplaced(); 3], [unplaced(); 3]);
-    let mut pinned = [unplaced(); 3];
-    let sample = sample_run(
-        &wanted,
-        &mut plain,
-        &mut pinned,
-        &mut rotated,
+    let run = run_sample(
+        Change::Swap(1, 1),
+        Change::Reverse(2, 0),
         &mut [unplaced(); 3],
     );
-    assert!(rt; refusal(&sample.tried) == Some(22) && refusal(&sample.undone) == Some(23));
-    assert!(rt; is_placed(&pinned[1], 0, 0, 0, 0) && is_placed(&rotated[2], 0, 0, 0, 0));
-    assert!(rt; is_chip(&sample.packed, 7, 4, 28) && is_chip(&sample.short, 7, 4, 28));
-    assert!(rt; is_settled(&sample, false));
+    assert!(rt; refusal(&run.sample.tried) == Some(22) && refusal(&run.sample.undone) == Some(23));
+    assert!(rt; is_placed(&run.pinned[1], 0, 0, 0, 0) && is_placed(&run.rotated[2], 0, 0, 0, 0));
+    assert!(rt; is_chip(&run.sample.packed, 7, 4, 28) && is_chip(&run.sample.short, 7, 4, 28));
+    assert!(rt; is_settled(&run.sample, false));
 }
 
 // In counted lengths, without a layer.
