@@ -9,4 +9,5 @@ pub mod Parsing
 pub mod Promises
 pub mod Reading
 pub mod Script
+pub mod SizesRead
 pub mod Words

@@ -17,8 +17,8 @@ fn line_end(bytes: &[u8]) -> Option<usize>
 
 // A line: its sheet, the bytes of that, and where in them it starts.
 // Its width is no field of it: a stage knows it only once it is checked, and says so to the next by a `requires`.
-// That it is of its own sheet a stage asks too: a type for each sheet was tried, and a generic struct with a ghost field
-// derives no Copy.
+// That it is of its own sheet a stage asks too: with a type for each sheet the struct would be generic, and a generic struct
+// with a ghost field derives no `Copy`.
 #[derive(Clone, Copy)]
 pub(crate) struct Line<'a> {
     pub sheet: Sheet,
