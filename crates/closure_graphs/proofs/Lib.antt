@@ -1,6 +1,8 @@
 -- The mathematics of two closure graphs.
+pub mod Refusals
 pub mod RowTables
 pub mod Counts
 pub mod RowSteps
 pub mod Directions
-pub mod Calls
+pub mod StandsFor
+pub mod Changes

@@ -1,21 +1,27 @@
 -- What the representation by two closure graphs means, and what is told of its edges and of its graphs after a change.
-use Rattle.std.specs.Prelude.{◌≡◌, ℕ, true, Some, None, Ok, Err, Result}
+use Rattle.std.specs.Prelude.{◌≡◌, ℕ, true, List, Some, None, Ok, Err, Result}
 use Rattle.closure_graphs.specs.Sound.{table_drawn, graphs_plan}
 use Rattle.closure_graphs.specs.Shown.{Shown, facing}
 use Rattle.closure_graphs.specs.declared.closure_graphs.ClosureGraphs.{ClosureGraphs}
 use Rattle.closure_graphs.specs.declared.edge.Edge.{Edge}
-use Rattle.plans.specs.Changes.{edge_refusal, change_refusal, changed, with_table}
+use Rattle.plans.specs.Changes.{after_load, edge_refusal, change_refusal, changed, with_table}
 use Rattle.plans.specs.Directions.{code_along}
 use Rattle.plans.specs.Tables.{Floorplan, FeasibleTable, table_in}
 use Rattle.plans.specs.Sequences.{fitting}
 use Rattle.plans.specs.Tests.{loadable}
 use Rattle.plans.specs.declared.change.Change.{Change}
 use Rattle.plans.specs.declared.refusals.ChangeRefusal.{ChangeRefusal}
+use Rattle.plans.specs.declared.refusals.LoadRefusal.{LoadRefusal}
 use Rattle.table_tests.specs.declared.build.TwoGraphs.{TwoGraphs}
 
 -- the floorplan of the graphs and the sequence
 abbrev pub graphs_mean : ClosureGraphs → Floorplan
 graphs_mean x = graphs_plan x.size x.graphs x.sequence
+
+-- the first refusal of a load, or graphs that mean what it gives
+abbrev pub GraphsLoaded : List ℕ → List ℕ → Result ClosureGraphs LoadRefusal → Type 0
+GraphsLoaded codes s (Ok x) = after_load codes s ≡ Ok (graphs_mean x)
+GraphsLoaded codes s (Err e) = after_load codes s ≡ Err e
 
 -- the first refusal of a change of (a, b), or the edge from a to b, a reduction edge, with its two graphs
 abbrev pub EdgeFound : ClosureGraphs → ℕ → ℕ → Result Edge ChangeRefusal → Type 0

@@ -7,14 +7,14 @@ ghost use Rattle.table_tests.specs.Tested.{Shows};
 
 use table_tests::TwoGraphs;
 
-// The modules right of each and above each, and the first `size` places of the sequence. The floorplan of
-// these is feasible, and each graph has its edges and no other. The list has room for 64, since a change may not use
-// the heap.
-#[derive(Drop)]
+/// A feasible floorplan as rows of sets: the modules right of each and above each, and the first `size` places of the
+/// packing sequence. The fields are open, but no value of them can be made that is not feasible, or in which a graph
+/// has an edge too many or too few. The list has room for 64, since a change may not use the heap.
+#[derive(Clone, Copy)]
 pub struct ClosureGraphs {
-    pub(crate) size: usize,
-    pub(crate) graphs: TwoGraphs,
-    pub(crate) sequence: [usize; 64],
+    pub size: usize,
+    pub graphs: TwoGraphs,
+    pub sequence: [usize; 64],
     ghost few: { size ≤ 64 },
     ghost long: { length sequence ≡ 64 },
     ghost feasible: { loadable (graphs_plan size graphs sequence) ≡ true },

@@ -1,10 +1,11 @@
-// The representation that keeps two closure graphs and the packing sequence.
+// Two closure graphs with their packing sequence: a feasible floorplan as rows of sets, its loads and its changes.
 #![tactic(auto)]
 
+mod calls;
 mod closure_graphs;
 mod edge;
 mod fitting;
-mod implementation;
+mod modules;
 mod places;
 mod redrawn;
 

@@ -4,8 +4,8 @@ ghost use Rattle.plans.specs.declared.change.Change.TheVariants.{Swap, Reverse, 
 
 use crate::closure_graphs::ClosureGraphs;
 use crate::edge::Edge;
+use crate::modules::two_modules;
 use plans::ChangeRefusal;
-use representations::{Representation, two_modules};
 use table_tests::TwoGraphs;
 
 impl ClosureGraphs {

@@ -1,3 +1,2 @@
--- What layers over a representation share, and what the tests of a change tell.
+-- What layers over a representation share.
 pub mod Layers
-pub mod Refusals

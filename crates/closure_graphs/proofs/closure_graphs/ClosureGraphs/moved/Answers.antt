@@ -1,5 +1,5 @@
 -- A move of a reduction edge.
-use Rattle.closure_graphs.proofs.Calls.{edge_moved}
+use Rattle.closure_graphs.proofs.Changes.{edge_moved}
 use Rattle.closure_graphs.proofs.closure_graphs.ClosureGraphs.moved.Goals as goal
 
 pub returns : goal.returns

@@ -3,8 +3,8 @@ use Rattle.std.proofs.Common.{ap, ◌∙◌}
 use Rattle.plans.specs.Changes.{two_refusal}
 use Rattle.plans.specs.Search.{refusing}
 use Rattle.plans.specs.declared.refusals.ChangeRefusal.TheVariants.{NoReductionEdge}
-use Rattle.representations.proofs.Refusals.{passed}
-use Rattle.closure_graphs.proofs.Calls.{edge_refused}
+use Rattle.closure_graphs.proofs.Refusals.{passed}
+use Rattle.closure_graphs.proofs.Changes.{edge_refused}
 use Rattle.closure_graphs.proofs.closure_graphs.ClosureGraphs.reduction_edge.Goals as goal
 
 pub returns-then-contains : goal.returns-then-contains

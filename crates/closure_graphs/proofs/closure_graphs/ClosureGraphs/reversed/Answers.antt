@@ -1,5 +1,5 @@
 -- A reverse of a reduction edge, with the sequence that fits.
-use Rattle.closure_graphs.proofs.Calls.{edge_reversed}
+use Rattle.closure_graphs.proofs.Changes.{edge_reversed}
 use Rattle.closure_graphs.proofs.closure_graphs.ClosureGraphs.reversed.Goals as goal
 
 pub returns : goal.returns

@@ -1,7 +1,7 @@
 -- Both graphs with the two modules exchanged.
 use Rattle.plans.specs.Changes.{two_refusal}
-use Rattle.representations.proofs.Refusals.{passed}
-use Rattle.closure_graphs.proofs.Calls.{swap_drawn}
+use Rattle.closure_graphs.proofs.Refusals.{passed}
+use Rattle.closure_graphs.proofs.Changes.{swap_drawn}
 use Rattle.closure_graphs.proofs.closure_graphs.ClosureGraphs.swapped.Goals as goal
 
 pub returns : goal.returns

@@ -1,7 +1,7 @@
 -- Where neither graph has an edge the table has none.
 use Rattle.std.proofs.Common.{sym, refl}
-use Rattle.closure_graphs.proofs.Calls.{told}
-use Rattle.closure_graphs.proofs.implementation.ClosureGraphsRepresentation.direction.Goals as goal
+use Rattle.closure_graphs.proofs.Changes.{told}
+use Rattle.closure_graphs.proofs.closure_graphs.ClosureGraphs.direction.Goals as goal
 
 pub returns-else-has_edge-2 : goal.returns-else-has_edge-2
 returns-else-has_edge-2 c =

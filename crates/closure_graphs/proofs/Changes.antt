@@ -18,7 +18,7 @@ use Rattle.plans.specs.Tables.{Floorplan, Feasible, FeasibleTable, table_in}
 use Rattle.plans.specs.declared.change.Change.TheVariants.{Swap, Reverse, MoveEdge}
 use Rattle.plans.specs.declared.direction.Direction.{Direction}
 use Rattle.plans.specs.declared.refusals.ChangeRefusal.TheVariants.{NoReductionEdge}
-use Rattle.representations.proofs.Refusals.{edge_told}
+use Rattle.closure_graphs.proofs.Refusals.{edge_told}
 use Rattle.closure_graphs.proofs.Directions.{codes, shown_own, reverse_along, move_along}
 use Rattle.closure_graphs.proofs.RowSteps.{steps_bypass}
 use Rattle.table_tests.proofs.Passed.{shown_table}
