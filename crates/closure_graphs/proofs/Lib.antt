@@ -5,4 +5,6 @@ pub mod Counts
 pub mod RowSteps
 pub mod Directions
 pub mod StandsFor
+pub mod CodeRows
+pub mod Transposing
 pub mod Changes

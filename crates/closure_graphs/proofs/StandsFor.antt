@@ -1,5 +1,5 @@
 -- Two graphs and a list of places that stand for a feasible floorplan.
-use Rattle.std.proofs.Common.{◌≡◌, ℕ, ◌<◌, ◌≤◌, true, List, length, take, get_or, sym, refl, ap, ◌∙◌, subst, arith}
+use Rattle.std.proofs.Common.{◌≡◌, ℕ, ◌<◌, ◌≤◌, true, List, length, take, get_or, sym, ap, ◌∙◌, subst, arith}
 use Rattle.std.proofs.lemmas.List.{length-take-le, same_lists, get_or_default, get_or-take}
 use Rattle.plans.proofs.LoadLaw.{feasible_loadable}
 use Rattle.plans.proofs.TableLists.{same_table}

@@ -57,6 +57,13 @@ impl ClosureGraphs {
         }
     }
 
+    /// 1 where i is left of j, 2 where i is below j, else 0, also outside the plan: the byte that a load takes.
+    pub fn code(&self, i: usize, j: usize) -> u8
+        ensures { result ≡ table_in (graphs_mean self.now) i j }
+    {
+        self.direction(i, j).map_or(0, u8::from)
+    }
+
     /// The module at a place of the packing sequence, none outside it.
     pub fn module_at(&self, place: usize) -> Option<usize>
         ensures { result ≡ module_at (graphs_mean self.now) place }
@@ -113,7 +120,7 @@ impl ClosureGraphs {
         let mut codes = [0; 4096];
         for i in 0..self.size {
             for j in 0..self.size {
-                codes[i * self.size + j] = self.direction(i, j).map_or(0, u8::from);
+                codes[i * self.size + j] = self.code(i, j);
             }
         }
         codes

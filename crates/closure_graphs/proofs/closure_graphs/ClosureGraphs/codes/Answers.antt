@@ -1,0 +1,35 @@
+-- One code more is written, and at the end all are.
+use Rattle.std.proofs.Common.{◌+◌, ◌≡◌, ◌*◌, subst, ◌∙◌, arith}
+use Rattle.std.proofs.Math.ListN.{length-set}
+use Rattle.std.proofs.lemmas.Nat.{mul-le}
+use Rattle.plans.proofs.TableLists.{same_table}
+use Rattle.plans.specs.Tables.{table_in}
+use Rattle.closure_graphs.proofs.CodeRows.{Written, cell_inside, written_more, written_all}
+use Rattle.closure_graphs.specs.Meaning.{graphs_mean}
+use Rattle.closure_graphs.specs.Settled.{plan_feasible}
+use Rattle.closure_graphs.proofs.closure_graphs.ClosureGraphs.codes.Goals as goal
+
+pub loop-j-preserved : goal.loop-j-preserved
+loop-j-preserved c =
+    let x = c.args.self.now in
+    let i = c.loop-i.i in
+    let j = c.loop-j.j in
+    let inside = cell_inside x.size i j (omega arith) (omega arith) in
+    let all = mul-le x.size x.size 64 64 x.few x.few in
+    record {
+      long = length-set c.loop-j.codes (i * x.size + j) c.code.result ∙ c.loop-j.invariant.long;
+      written =
+          written_more x.size (table_in (graphs_mean x)) i j c.code.result c.loop-j.codes (omega arith) (omega arith)
+          (omega (arith, inside, all, c.loop-j.invariant.long)) c.loop-j.invariant.written c.code.ensures;
+    }
+
+pub returns : goal.returns
+returns c =
+    let x = c.args.self.now in
+    let p = graphs_mean x in
+    let f = plan_feasible x.size x.graphs x.sequence x.few x.long x.feasible in
+    let all = mul-le x.size x.size 64 64 x.few x.few in
+    let end : c.loop-i.i ≡ x.size = omega arith in
+    written_all x.size (table_in p) c.loop-i.codes (omega (arith, all, c.loop-i.invariant.long))
+    (subst (λ n. Written x.size (table_in p) (n * x.size) c.loop-i.codes) end c.loop-i.invariant.written)
+    ∙ same_table x.size p.codes f.full
