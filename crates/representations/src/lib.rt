@@ -1,10 +1,9 @@
-// Representations: what stands for one feasible floorplan, whatever it keeps, and the test that changes share.
+// Representations: what stands for one feasible floorplan, whatever it keeps.
 #![tactic(auto)]
 
-mod modules;
+mod graphs_representation;
 mod representation;
 mod transposed;
 
-pub use modules::two_modules;
 pub use representation::Representation;
 pub use transposed::Transposed;
