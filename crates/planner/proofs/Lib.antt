@@ -1,5 +1,4 @@
 -- Lemmas of the plan.
-pub mod Notes
 pub mod ModelSteps
 pub mod JoinedRuns
 pub mod RunLaw

@@ -1,13 +1,13 @@
 -- What is current and what a trial noted as layouts, and what a load or a change makes of rotated modules.
 use Rattle.std.specs.Prelude.{◌≡◌, ℕ, Bool, false, Ok, Err, Option, Result}
 use Rattle.std.specs.Option.{option_map}
+use Rattle.closure_graphs.specs.Meaning.{graphs_mean}
 use Rattle.module_set.specs.Members.{member}
 use Rattle.plans.specs.Model.{Layout, State, rotated_after}
 use Rattle.plans.specs.Tables.{Floorplan}
 use Rattle.plans.specs.declared.change.Change.{Change}
 use Rattle.plans.specs.declared.refusals.ChangeRefusal.{ChangeRefusal}
 use Rattle.plans.specs.declared.refusals.LoadRefusal.{LoadRefusal}
-use Rattle.planner.specs.Notes.{noted_plan}
 use Rattle.planner.specs.declared.current.Current.{Current}
 use Rattle.planner.specs.declared.noted.Noted.{Noted}
 
@@ -17,7 +17,7 @@ layout_of means c = record { plan = means c.representation; rotated = member c.r
 
 -- the layout that a trial noted
 abbrev pub noted_layout : Noted → Layout
-noted_layout n = record { plan = noted_plan n.size n.codes n.sequence; rotated = member n.rotated }
+noted_layout n = record { plan = graphs_mean n.graphs; rotated = member n.rotated }
 
 -- the model's state of what is current and what a trial noted
 abbrev pub state_in : {R : Type 0} → (R → Floorplan) → Current R → Option Noted → State

@@ -1,5 +1,4 @@
 -- What the calls of a plan promise, and the law of their runs.
-pub mod Notes
 pub mod Layouts
 pub mod States
 pub mod Calls
