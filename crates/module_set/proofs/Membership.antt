@@ -2,7 +2,7 @@
 use Rattle.std.proofs.Common.{◌≡◌, ℕ, ◌/◌, ◌^◌, ◌<◌, ◌≤◌, Bool, true, false, not, ◌&&◌, ◌||◌, eqb, ltb, is_some, Some, None, Option, sym, refl, ap, ◌∙◌, inl, inr, arith}
 use lib.Bits.{bit_and, bit_or, bit_xor, and_mask}
 use lib.Count.{ones, count_trailing_zeros}
-use Rattle.std.proofs.lemmas.Bool.{cases_lt, lt-ltb, le-ltb}
+use Rattle.std.proofs.lemmas.Bool.{cases_lt, lt-ltb, le-ltb, true≢false}
 use Rattle.std.proofs.lemmas.Bool.Decides.{nat_tests}
 use Rattle.plans.proofs.Searches.{count_same, first_is, first_tells, some_tells, some_from, none_from}
 use Rattle.plans.specs.First.{IsFirst}
@@ -112,3 +112,23 @@ bounded false b e = refl
 pub without_number : (s : ModuleSet) (k i : ℕ) → (member s k && not (ltb k 64 && eqb k i)) ≡ (member s k && not (eqb k i))
 unfolding member
 without_number s k i = bounded (ltb k 64) (bit_set s.bits k) (eqb k i)
+
+-- one set is in another exactly where each of its members is one of the other
+pub member_in_set : (s t : ModuleSet) (k : ℕ) → in_set s t ≡ true → member s k ≡ true → member t k ≡ true
+unfolding in_set
+member_in_set s t k within here = settle (member t k) refl
+  where
+    settle : (b : Bool) → member t k ≡ b → b ≡ true
+    settle true e = refl
+    settle false e =
+        let found = some_from 64 (λ j. member s j && not (member t j)) k (member_below s k here) (rw (here, e) refl) in
+        absurd (true≢false (sym within ∙ ap not found))
+
+pub in_set_from : (s t : ModuleSet) → ((k : ℕ) → member s k ≡ true → member t k ≡ true) → in_set s t ≡ true
+unfolding in_set
+in_set_from s t each =
+    ap not (none_from 64 (λ k. member s k && not (member t k)) (λ k h. settle (member s k) (member t k) (each k)))
+  where
+    settle : (a b : Bool) → (a ≡ true → b ≡ true) → (a && not b) ≡ false
+    settle false b e = refl
+    settle true b e = rw (e refl) refl

@@ -1,4 +1,6 @@
 // A set of modules 0 to 63, a bit of one word for each.
+mod places;
+
 ghost use Rattle.std.specs.Prelude.{◌≡◌, ℕ, true, false, not, ◌&&◌, ◌||◌, if◌then◌else◌, ◌==◌, nat_lt};
 ghost use Rattle.module_set.specs.Members.{member, no_member, in_set, least_member, member_count, is_this};
 ghost use Rattle.plans.specs.Changes.{exchange};

@@ -3,6 +3,11 @@ pub mod PairRows
 pub mod RowRuns
 pub mod CodeTests
 pub mod GraphRows
+pub mod ClosedRows
 pub mod ClosureRows
 pub mod PlaceMarks
 pub mod Passed
+pub mod Standing
+pub mod WalkSteps
+pub mod WalkedFeasible
+pub mod AcceptedLoads

@@ -7,13 +7,13 @@ use Rattle.graphs.specs.Edges.{edge}
 use Rattle.graphs.specs.declared.graph.Graph.{Graph}
 use Rattle.plans.proofs.Accepted.{or_else_none, refusing_none}
 use Rattle.plans.proofs.Searches.{first_pair_tells}
-use Rattle.plans.proofs.TableLists.{table_within, same_table}
+use Rattle.plans.proofs.TableLists.{table_within}
 use Rattle.plans.specs.First.{IsFirstPair}
 use Rattle.plans.specs.Search.{refusing, first_pair}
-use Rattle.plans.specs.Tables.{Table, table_of, codes_of}
+use Rattle.plans.specs.Tables.{Table, table_of}
 use Rattle.plans.specs.Tests.{misshapen, code_wrong, codes_refusal, telling_pair}
 use Rattle.plans.specs.declared.refusals.LoadRefusal.TheVariants.{WrongShape, WrongCode}
-use Rattle.table_tests.specs.Tested.{Shows, Drawn, graph_table}
+use Rattle.table_tests.specs.Tested.{Shows, graph_table}
 
 -- the graphs of a table with codes up to 2 have that table
 pub shown_table :
@@ -55,12 +55,3 @@ module _ (m : ℕ) (codes : List ℕ) (passed : codes_refusal 64 2 m codes ≡ N
             absurd (grind (arith, nat_tests))
         | inr less ↦ less
       ]
-
-  -- their graphs tell them
-  pub graphs_drawn :
-      (g h : Graph) → Shows (table_of m codes) 1 g → Shows (table_of m codes) 2 h → Drawn m codes g h
-  graphs_drawn g h p q = (
-    p,
-    q,
-    ap (codes_of m) (shown_table (table_of m codes) g h codes_small p q) ∙ same_table m codes shape_full,
-  )

@@ -1,5 +1,5 @@
 -- The edges that two graphs lack to be closed.
-use Rattle.std.specs.Prelude.{◌≡◌, ℕ, ◌<◌, Bool, true, not, ◌&&◌, ◌||◌}
+use Rattle.std.specs.Prelude.{ℕ, Bool, not, ◌&&◌, ◌||◌}
 use Rattle.graphs.specs.Edges.{edge, two_steps}
 use Rattle.graphs.specs.declared.graph.Graph.{Graph}
 
@@ -10,8 +10,3 @@ lacks g i k = two_steps g i k && not (edge g i k)
 -- whether either of two graphs does
 abbrev pub missing : Graph → Graph → ℕ → ℕ → Bool
 missing g h i k = lacks g i k || lacks h i k
-
--- the edges of both graphs lead to modules
-abbrev pub JoinsModules : ℕ → Graph → Graph → Type 0
-JoinsModules m g h =
-    ((i j : ℕ) → edge g i j ≡ true → j < m) × ((i j : ℕ) → edge h i j ≡ true → j < m)

@@ -4,3 +4,4 @@ pub mod Rows
 pub mod Closure
 pub mod Places
 pub mod Tested
+pub mod Walked

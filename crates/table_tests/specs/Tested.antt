@@ -1,5 +1,5 @@
 -- What a tested table and sequence answer: the first refusal of a load, or the two graphs.
-use Rattle.std.specs.Prelude.{◌≡◌, ℕ, cond, List, length, Some, None, Ok, Err, Result, ◌==◌}
+use Rattle.std.specs.Prelude.{◌≡◌, ℕ, cond, ◌≢◌, List, length, Some, None, Option, Ok, Err, Result, ◌==◌}
 use Rattle.graphs.specs.Edges.{edge}
 use Rattle.graphs.specs.declared.graph.Graph.{Graph}
 use Rattle.plans.specs.Tables.{Table, table_of, codes_of}
@@ -15,11 +15,6 @@ Shows c code g = (i j : ℕ) → edge g i j ≡ (c i j == code)
 abbrev pub graph_table : Graph → Graph → Table
 graph_table g h i j = cond (edge g i j) 1 (cond (edge h i j) 2 0)
 
--- the two graphs of a table of m modules, and no other table has them
-abbrev pub Drawn : ℕ → List ℕ → Graph → Graph → Type 0
-Drawn m codes g h =
-    Shows (table_of m codes) 1 g × Shows (table_of m codes) 2 h × (codes_of m (graph_table g h) ≡ codes)
-
 -- refused by the first refusal, or not refused and with the graphs of the codes 1 and 2
 abbrev pub Tested : List ℕ → List ℕ → Result TwoGraphs LoadRefusal → Type 0
 Tested codes s (Ok two) =
@@ -32,3 +27,8 @@ Tested codes s (Err e) = load_refusal codes s ≡ Some e
 abbrev pub TestedWhole : List ℕ → List ℕ → Result TwoGraphs LoadRefusal → Type 0
 TestedWhole codes s (Ok two) = codes_of (length s) (graph_table two.right two.above) ≡ codes
 TestedWhole codes s (Err e) = Unit {0}
+
+-- the graphs of a load that is accepted, and none of a load that is refused
+abbrev pub AcceptsExactly : List ℕ → List ℕ → Option TwoGraphs → Type 0
+AcceptsExactly codes s (Some two) = Tested codes s (Ok two) × TestedWhole codes s (Ok two)
+AcceptsExactly codes s None = load_refusal codes s ≢ None

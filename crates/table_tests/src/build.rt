@@ -1,13 +1,7 @@
 // The two graphs of a table, each of the edges in one direction.
-ghost use Rattle.std.specs.Prelude.{◌≡◌, ℕ, ◌≤◌, length, None, ◌==◌, slice_index};
-ghost use Rattle.graphs.specs.Edges.{edge};
-ghost use Rattle.module_set.specs.Members.{member};
-ghost use Rattle.plans.specs.Directions.{code_along};
-ghost use Rattle.plans.specs.Search.{first_pair};
-ghost use Rattle.plans.specs.Tests.{codes_refusal, not_closed};
-ghost use Rattle.table_tests.specs.Closure.{missing, JoinsModules};
+ghost use Rattle.std.specs.Prelude.{◌≡◌, ℕ, ◌≤◌, slice_index};
 ghost use Rattle.table_tests.specs.Codes.{table_given};
-ghost use Rattle.table_tests.specs.Tested.{Drawn};
+ghost use Rattle.table_tests.specs.Tested.{Shows};
 
 use crate::table::Table;
 use graphs::Graph;
@@ -22,44 +16,31 @@ pub struct TwoGraphs {
 }
 
 impl TwoGraphs {
-    // The graphs of a table that passes the first tests: they lack an edge where the table is not closed.
+    // The graphs of a table. They lack an edge where its code is of no direction.
     pub(crate) fn of(table: Table<'_>) -> TwoGraphs
-        requires passed { codes_refusal 64 2 table.modules table.codes.now ≡ None }
-        ensures drawn { Drawn table.entry.modules table.entry.codes.now result.right result.above }
-        ensures inside { JoinsModules table.entry.modules result.right result.above }
-        ensures missing { first_pair table.entry.modules (missing result.right result.above) ≡ first_pair table.entry.modules (not_closed table.entry.modules (table_given table.entry)) }
+        requires few { table.modules ≤ 64 }
+        ensures right { Shows (table_given table.entry) 1 result.right }
+        ensures above { Shows (table_given table.entry) 2 result.above }
     {
-        TwoGraphs {
-            right: graph_of(table, Direction::Right),
-            above: graph_of(table, Direction::Above),
+        let mut right = Graph::empty();
+        let mut above = Graph::empty();
+        // by the row's number, since chunks of the codes would ask for a test that there are modules
+        for i in 0..table.modules {
+            let row = padded_row(table, i);
+            right.set_successors(i, ModuleSet::places_of(Direction::Right.into(), &row));
+            above.set_successors(i, ModuleSet::places_of(Direction::Above.into(), &row));
         }
+        TwoGraphs { right, above }
     }
 }
 
-// The edges of a table in this direction.
-fn graph_of(table: Table<'_>, direction: Direction) -> Graph
+// The codes of row i, with no edge to the numbers that are no module.
+fn padded_row(table: Table<'_>, i: usize) -> [u8; 64]
     requires few { table.modules ≤ 64 }
-    ensures { (i j : ℕ) → edge result i j ≡ (table_given table.entry i j == code_along direction) }
+    ensures { (j : ℕ) → slice_index result j ≡ table_given table.entry i j }
 {
-    let mut graph = Graph::empty();
-    // by the row's number, since chunks of the codes would ask for a test that there are modules
-    for i in 0..table.modules {
-        graph.set_successors(i, row_of(table.row(i), direction));
-    }
-    graph
-}
-
-// The modules to which a row tells an edge in this direction.
-fn row_of(row: &[u8], direction: Direction) -> ModuleSet
-    requires few { length row.now ≤ 64 }
-    ensures { (j : ℕ) → member result j ≡ (slice_index row.now j == code_along direction) }
-{
-    let code = u8::from(direction);
-    let mut found = ModuleSet::empty();
-    for (j, &other) in row.iter().enumerate() {
-        if other == code {
-            found = found.with(j);
-        }
-    }
-    found
+    let row = table.row(i);
+    let mut padded = [0; 64];
+    padded[..row.len()].copy_from_slice(row);
+    padded
 }

@@ -1,28 +1,40 @@
-// The test that two graphs are closed, by rows.
-ghost use Rattle.std.specs.Prelude.{◌≡◌, ℕ};
+// The test that the two graphs of a table are closed, by rows.
+ghost use Rattle.std.specs.Prelude.{◌≡◌, ℕ, ◌<◌, true, None};
 ghost use Rattle.module_set.specs.Members.{member};
 ghost use Rattle.plans.specs.Changes.{unless};
 ghost use Rattle.plans.specs.Search.{first_pair};
-ghost use Rattle.plans.specs.Tests.{telling_pair};
+ghost use Rattle.plans.specs.Tests.{codes_refusal, not_closed, telling_pair};
 ghost use Rattle.plans.specs.declared.refusals.LoadRefusal.TheVariants.{NotClosed};
-ghost use Rattle.table_tests.specs.Closure.{lacks, missing, JoinsModules};
+ghost use Rattle.table_tests.specs.Closure.{lacks, missing};
+ghost use Rattle.table_tests.specs.Codes.{table_given};
 
 use crate::build::TwoGraphs;
 use crate::rows::first_in_rows;
+use crate::table::Table;
 use graphs::Graph;
 use module_set::ModuleSet;
 use plans::LoadRefusal;
 
-impl TwoGraphs {
+impl<'a> Table<'a> {
     // Each edge is there that two others of one graph close.
-    pub(crate) fn check_closure(&self, modules: usize) -> Result<(), LoadRefusal>
-        requires { JoinsModules modules self.now.right self.now.above }
-        ensures { result ≡ unless (telling_pair NotClosed (first_pair modules (missing self.now.right self.now.above))) tt }
+    pub(crate) fn check_closure(self) -> Result<(), LoadRefusal>
+        requires passed { codes_refusal 64 2 self.modules self.codes.now ≡ None }
+        ensures { result ≡ unless (telling_pair NotClosed (first_pair self.entry.modules (not_closed self.entry.modules (table_given self.entry)))) tt }
     {
-        first_in_rows(modules, |i| self.missing_from(i).first()).map_or(
-            Ok(()),
-            |(i, k)| Err(LoadRefusal::NotClosed(i, k)),
-        )
+        let graphs = TwoGraphs::of(self);
+        graphs
+            .first_missing(self.modules)
+            .map_or(Ok(()), |(i, k)| { Err(LoadRefusal::NotClosed(i, k)) })
+    }
+}
+
+impl TwoGraphs {
+    // The first edge that is missing, row after row.
+    fn first_missing(&self, modules: usize) -> Option<(usize, usize)>
+        requires inside { (i k : ℕ) → missing self.now.right self.now.above i k ≡ true → k < modules }
+        ensures { result ≡ first_pair modules (missing self.now.right self.now.above) }
+    {
+        first_in_rows(modules, |i| self.missing_from(i).first())
     }
 
     // The modules to which i lacks an edge that two others of one graph close.
