@@ -1,7 +1,6 @@
 // Two closure graphs with their packing sequence: a feasible floorplan as rows of sets, its loads and its changes.
 #![tactic(auto)]
 
-mod calls;
 mod closure_graphs;
 mod edge;
 mod fitting;
@@ -10,3 +9,4 @@ mod places;
 mod redrawn;
 
 pub use closure_graphs::ClosureGraphs;
+pub use modules::two_modules;

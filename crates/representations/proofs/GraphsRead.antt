@@ -1,16 +1,14 @@
 -- The graphs and the sequence of a floorplan, read off what it tells.
-use Rattle.std.proofs.Common.{◌≡◌, ℕ, ◌+◌, ◌<◌, ◌≤◌, ◌≢◌, set, cond, true, false, ◌&&◌, ◌||◌, if◌then◌else◌, eqb, ltb, List, length, get_or, Some, None, Option, sym, ap, ◌∙◌, subst, inl, inr, arith}
+use Rattle.std.proofs.Common.{◌≡◌, ℕ, ◌+◌, ◌<◌, ◌≤◌, ◌≢◌, set, cond, false, ◌&&◌, ◌||◌, eqb, ltb, List, length, get_or, Some, None, Option, sym, ap, ◌∙◌, subst, inl, inr, arith}
 use Rattle.std.proofs.lemmas.Bool.{cases_eq, ne_eqb, lt-ltb}
 use Rattle.std.proofs.lemmas.Bool.Decides.{nat_tests}
 use Rattle.std.proofs.lemmas.List.{get_or-set_same, get_or-set_other}
-use Rattle.graphs.specs.Edges.{edge}
-use Rattle.graphs.specs.declared.graph.Graph.{Graph}
 use Rattle.module_set.specs.Members.{member}
 use Rattle.module_set.specs.declared.set.ModuleSet.{ModuleSet}
 use Rattle.plans.specs.Tables.{Table, Floorplan, Feasible, table_in, module_at}
 use Rattle.closure_graphs.proofs.StandsFor.{StandsFor, stands_for}
 use Rattle.closure_graphs.specs.Shown.{Shown}
-use Rattle.table_tests.proofs.GraphRows.{Built}
+use Rattle.table_tests.proofs.GraphRows.{Built, seen_below}
 use Rattle.table_tests.specs.declared.build.TwoGraphs.{TwoGraphs}
 
 -- a set of the modules below n to which i has an edge of a code
@@ -44,34 +42,11 @@ row_passed c code i n s read other k = read k ∙ settle
           | inr differs ↦ grind (arith, nat_tests)
         ]
 
--- a row that was read goes into the graph
-pub row_put :
-    (c : Table) (code i m : ℕ) (g h : Graph) (s : ModuleSet) → i < 64 → Built c code i g → RowRead c code i m s
-    → ((i j : ℕ) → 0 < c i j → j < m) → 0 < code
-    → ((k j : ℕ) → edge h k j ≡ (if ltb k 64 && eqb k i then member s j else edge g k j)) → Built c code (i + 1) h
-row_put c code i m g h s few built row within some put k j = put k j ∙ settle
-  where
-    inside : (ltb j m && eqb (c i j) code) ≡ eqb (c i j) code
-    inside =
-        elim (cases_eq (c i j) code) [
-          | inl same ↦ let w = within i j (omega arith) in grind (arith, nat_tests)
-          | inr other ↦ grind (arith, nat_tests)
-        ]
-
-    settle : (if ltb k 64 && eqb k i then member s j else edge g k j) ≡ (ltb k (i + 1) && eqb (c k j) code)
-    settle =
-        elim (cases_eq k i) [
-          | inl same ↦
-              let e : eqb (c i j) code ≡ eqb (c k j) code = ap (λ n. eqb (c n j) code) (sym same) in
-              let t : (ltb k 64 && eqb k i) ≡ true = grind (arith, nat_tests) in
-              let u : ltb k (i + 1) ≡ true = grind (arith, nat_tests) in
-              rw (t, u) (row j ∙ inside ∙ e)
-          | inr other ↦
-              let t : eqb k i ≡ false = ne_eqb k i other in
-              let u : ltb k i ≡ ltb k (i + 1) = grind (arith, nat_tests) in
-              let v : (ltb k 64 && eqb k i) ≡ false = grind (arith, nat_tests) in
-              rw (v, ← u) (built k j)
-        ]
+-- a row that was read to its end is whole
+pub row_read :
+    (c : Table) (code i n : ℕ) (s : ModuleSet) → 0 < code → ((i j : ℕ) → 0 < c i j → j < n) → RowRead c code i n s
+    → (j : ℕ) → member s j ≡ eqb (c i j) code
+row_read c code i n s some within read j = read j ∙ seen_below c code n i j some within
 
 -- with all rows the two graphs show the floorplan's table
 all_rows :

@@ -1,5 +1,5 @@
 -- The graph of a code, built row by row.
-use Rattle.std.proofs.Common.{◌≡◌, ℕ, ◌+◌, ◌<◌, true, false, cond, ◌&&◌, eqb, ltb, List, get_or, sym, ap, ◌∙◌, inl, inr, arith}
+use Rattle.std.proofs.Common.{◌≡◌, ℕ, ◌+◌, ◌<◌, true, false, cond, ◌&&◌, eqb, ltb, List, sym, ap, ◌∙◌, inl, inr, arith}
 use Rattle.std.proofs.lemmas.Bool.{cases_eq}
 use Rattle.std.proofs.lemmas.Bool.Decides.{nat_tests}
 use Rattle.graphs.specs.Edges.{edge}
@@ -25,28 +25,30 @@ shows_inside m codes code g some shows i j e = (coded_within m codes code i j so
 abbrev pub Built : Table → ℕ → ℕ → Graph → Type 0
 Built c code n g = (k j : ℕ) → edge g k j ≡ (ltb k n && eqb (c k j) code)
 
--- so a row goes into it: the places of its code
+-- an edge of a code is seen among the numbers below n, where all that have one are below n
+pub seen_below :
+    (c : Table) (code n i j : ℕ) → 0 < code → ((i j : ℕ) → 0 < c i j → j < n)
+    → (ltb j n && eqb (c i j) code) ≡ eqb (c i j) code
+seen_below c code n i j some within =
+    elim (cases_eq (c i j) code) [
+      | inl same ↦ let w = within i j (omega arith) in grind (arith, nat_tests)
+      | inr other ↦ grind (arith, nat_tests)
+    ]
+
+-- a row goes into the graph
 pub row_put :
-    (c : Table) (code i : ℕ) (g h : Graph) (s : ModuleSet) (row : List ℕ) → i < 64
-    → ((i j : ℕ) → 0 < c i j → (i < 64) × (j < 64)) → 0 < code → Built c code i g → ((j : ℕ) → get_or row j 0 ≡ c i j)
-    → ((j : ℕ) → member s j ≡ (ltb j 64 && eqb (get_or row j 0) code))
+    (c : Table) (code i : ℕ) (g h : Graph) (s : ModuleSet) → i < 64 → Built c code i g
+    → ((j : ℕ) → member s j ≡ eqb (c i j) code)
     → ((k j : ℕ) → edge h k j ≡ cond (ltb k 64 && eqb k i) (member s j) (edge g k j)) → Built c code (i + 1) h
-row_put c code i g h s row few within some built is places put k j =
+row_put c code i g h s few built row put k j =
     put k j
     ∙ elim (cases_eq k i) [
       | inl same ↦
           let here : (ltb k 64 && eqb k i) ≡ true = grind (arith, nat_tests) in
           let below : ltb k (i + 1) ≡ true = grind (arith, nat_tests) in
-          rw (here, below) (places j ∙ ap (λ n. ltb j 64 && eqb n code) (is j ∙ ap (λ n. c n j) (sym same)) ∙ inside k j)
+          rw (here, below) (row j ∙ ap (λ n. eqb (c n j) code) (sym same))
       | inr other ↦
           let there : (ltb k 64 && eqb k i) ≡ false = grind (arith, nat_tests) in
           let below : ltb k i ≡ ltb k (i + 1) = grind (arith, nat_tests) in
           rw (there, ← below) (built k j)
     ]
-  where
-    inside : (k j : ℕ) → (ltb j 64 && eqb (c k j) code) ≡ eqb (c k j) code
-    inside k j =
-        elim (cases_eq (c k j) code) [
-          | inl same ↦ let w = within k j (omega arith) in grind (arith, nat_tests)
-          | inr other ↦ grind (arith, nat_tests)
-        ]

@@ -3,7 +3,8 @@ use Rattle.std.proofs.Common.{◌≡◌, ℕ, ◌+◌, ◌<◌, ◌≤◌, lengt
 use Rattle.std.proofs.Math.ListN.{length-set}
 use Rattle.plans.specs.Directions.{code_along, code_told}
 use Rattle.plans.specs.Tables.{table_in}
-use Rattle.representations.proofs.GraphsRead.{RowRead, row_found, row_passed, row_put, read_stands, places_more, module_there}
+use Rattle.table_tests.proofs.GraphRows.{row_put}
+use Rattle.representations.proofs.GraphsRead.{RowRead, row_found, row_passed, row_read, read_stands, places_more, module_there}
 use Rattle.representations.proofs.representation.Representation.to_graphs.Goals as goal
 use Rattle.representations.proofs.representation.Representation.to_graphs.Goals.{in-Some-Right, in-Some-Above, in-None}
 
@@ -57,15 +58,13 @@ loop-i-preserved g c =
     let few : i < 64 = omega (arith, c.modules-size.ensures, f.table.few) in
     let end : p.size ≤ m = omega (arith, c.modules-size.ensures) in
     let within : (i j : ℕ) → 0 < t i j → j < m = λ i j h. let w = f.table.within i j h in omega arith in
-    let right = c.set_successors.new.self in
-    let above = c.set_successors-in-loop-i.new.self in
     record {
       beside =
-          row_put t 1 i m c.loop-i.right right c.loop-j.beside few c.loop-i.invariant.beside c.loop-j.invariant.beside within
-          (omega arith) c.set_successors.ensures;
+          row_put t 1 i c.loop-i.right c.set_successors.new.self c.loop-j.beside few c.loop-i.invariant.beside
+          (row_read t 1 i m c.loop-j.beside (omega arith) within c.loop-j.invariant.beside) c.set_successors.ensures;
       over =
-          row_put t 2 i m c.loop-i.above above c.loop-j.over few c.loop-i.invariant.over c.loop-j.invariant.over within
-          (omega arith) c.set_successors-in-loop-i.ensures;
+          row_put t 2 i c.loop-i.above c.set_successors-in-loop-i.new.self c.loop-j.over few c.loop-i.invariant.over
+          (row_read t 2 i m c.loop-j.over (omega arith) within c.loop-j.invariant.over) c.set_successors-in-loop-i.ensures;
     }
 
 pub loop-place-preserved : goal.loop-place-preserved
