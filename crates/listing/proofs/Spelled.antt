@@ -1,9 +1,8 @@
--- The digits and the columns that the library writes are those of the definitions.
-use Rattle.std.proofs.Common.{◌≡◌, ℕ, suc, ◌-◌, ◌^◌, ◌<◌, ◌≤◌, ◌++◌, length, decimal, sym, refl, ap, ◌∙◌, lit<, arith, rules}
-use Rattle.std.proofs.Padding.{padded_integral_right, styled_decimal_is}
-use Rattle.std.specs.Fmt.{format_spec, styled_decimal}
+-- Digits as the library writes them, at the end of a room of blanks, are a number in columns.
+use Rattle.std.proofs.Common.{◌≡◌, ℕ, suc, ◌-◌, ◌^◌, ◌+◌, ◌<◌, ◌≤◌, List, ◌++◌, length, take, drop, min, decimal, sym, refl, ◌∙◌, append-nil, arith, rules}
 use Rattle.listing.specs.Decimal.{last_digits, in_decimal}
 use Rattle.listing.specs.Padded.{blanks, padded}
+use Rattle.std.proofs.lemmas.List.{drop-append-le, drop-replicate, length-replicate, take-append-drop, take-replicate}
 use Rattle.std.proofs.lemmas.Fmt.{AppendsLastDigit, decimal_from_appends, length-decimal-le_succ}
 
 spells : AppendsLastDigit last_digits
@@ -16,9 +15,17 @@ decimal_is n h =
     let short : length (decimal n) ≤ suc n = omega (arith, length-decimal-le_succ n h) in
     sym (decimal_from_appends last_digits spells (suc n) n h short)
 
-pub padded_is : (w n : ℕ) → n < 2 ^ 64 → styled_decimal (format_spec 32 3 0 w (2 ^ 64 - 1)) n ≡ padded w n
-padded_is w n h =
-    let s = format_spec 32 3 0 w (2 ^ 64 - 1) in
-    styled_decimal_is s n
-    ∙ padded_integral_right s (decimal n) refl refl (λ e. omega (arith, e)) (λ e. omega (arith, e)) (lit< tt)
-    ∙ ap (λ ds. blanks (w - length ds) ++ ds) (decimal_is n h)
+-- Digits that end a room of blanks, from the columns' first on or, where they are more, from their own first: k.
+pub padded_is :
+    (room digits : List ℕ) (start k w n : ℕ) → digits ≡ in_decimal n → w ≤ 20
+    → start + length digits ≡ 20
+    → take start room ≡ take start (blanks 20)
+    → drop start room ≡ digits ++ drop 20 (blanks 20)
+    → k ≡ min start (20 - w)
+    → drop k room ≡ padded w n
+padded_is room digits start k w n is narrow ends before written from =
+    let front : take start room ≡ blanks start = before ∙ take-replicate start 20 32 (omega arith) in
+    let back : drop start room ≡ digits = written ∙ append-nil digits in
+    let inside : k ≤ length (blanks start) = omega (arith, length-replicate {A = ℕ} start 32) in
+    let left : start - k ≡ w - length digits = omega arith in
+    rw (← take-append-drop start room, front, back, drop-append-le k (blanks start) digits inside, drop-replicate {X = ℕ} k start 32, left, is) refl

@@ -1,7 +1,7 @@
 -- The lines of the listing: a word and its numbers in columns, ended by byte 10.
 use Rattle.std.specs.Prelude.{◌≡◌, ℕ, List, [], ◌∷◌, ◌++◌, OnOk, Result, codes}
 use Rattle.listing.specs.Padded.{padded}
-use Rattle.listing.specs.declared.lines.Column.{Column}
+use Rattle.listing.specs.declared.column.Column.{Column}
 use Rattle.std.specs.List.{flat_map}
 
 -- numbers in their columns

@@ -2,7 +2,8 @@
 ghost use Rattle.listing.specs.FaultLine.{fault_line};
 ghost use Rattle.listing.specs.Line.{Appends};
 
-use crate::lines::{Column, append_line};
+use crate::column::Column;
+use crate::lines::append_line;
 use plans::Refusal;
 use sheets::Fault;
 use std::alloc::AllocError;

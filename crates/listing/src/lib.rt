@@ -2,6 +2,7 @@
 #![tactic(auto)]
 
 mod bordered;
+mod column;
 mod fault;
 mod laws;
 mod lines;

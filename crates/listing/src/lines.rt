@@ -1,38 +1,27 @@
 // The lines of the listing: a word, numbers in columns, and byte 10.
 ghost use Rattle.listing.specs.CommandLines.{answer_number};
 ghost use Rattle.listing.specs.Line.{Appends, line_text, word_line};
-ghost use Rattle.listing.specs.Padded.{padded};
-ghost use Rattle.sheets.specs.Fields.{field_number};
-ghost use Rattle.std.specs.Prelude.{◌≡◌, Some, OnOk};
+ghost use Rattle.listing.specs.declared.column.TheConstants.{ROOM};
+ghost use Rattle.std.specs.Prelude.{◌≤◌, All};
 
+use crate::column::{Column, ROOM};
 use plans::Refusal;
 use std::alloc::AllocError;
 
-// A width and a number that is right-aligned in it; a longer one is written whole.
-#[derive(Clone, Copy)]
-pub(crate) struct Column(pub usize, pub u64);
-
-// Appends a number in its columns.
-fn append_number(out: &mut Vec<u8>, column: Column) -> Result<(), AllocError>
-    ensures bytes { Appends out.old.items out.new.items (padded column.0 column.1) result }
-    ensures reads_back { OnOk result (field_number (padded column.0 column.1) ≡ Some column.1) }
-{
-    let Column(width, number) = column;
-    let text = format!(in *out.allocator(); "{number:>width$}")?;
-    out.extend_from_slice(text.as_bytes())
-}
-
-// Appends a line: a word, or none, and numbers in columns.
+// Appends a line: a word, or none, and numbers in columns. Memory is asked for only where the listing has no room left,
+// and std then doubles the room: there is no allocation for each line.
 pub(crate) fn append_line(
     out: &mut Vec<u8>,
     word: &[u8],
     columns: &[Column],
 ) -> Result<(), AllocError>
+    requires { All (λ column. column.0 ≤ ROOM) columns.now }
     ensures { Appends out.old.items out.new.items (line_text word.now columns.now) result }
 {
+    let mut room = [b' '; ROOM];
     out.extend_from_slice(word)?;
     for column in columns {
-        append_number(out, *column)?;
+        out.extend_from_slice(column.write(&mut room))?;
     }
     out.push(b'\n')?;
     Ok(())

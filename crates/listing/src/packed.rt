@@ -5,7 +5,8 @@ ghost use Rattle.listing.specs.Line.{Appends, edge_line};
 ghost use Rattle.listing.specs.PackLines.{chip_lines, record_lines};
 ghost use Rattle.plans.specs.CarriedPackings.{carry_chip, carry_placed};
 
-use crate::lines::{Column, append_line};
+use crate::column::Column;
+use crate::lines::append_line;
 use lengths::Counted;
 use plans::{Chip, Placed};
 use std::alloc::AllocError;
