@@ -15,7 +15,7 @@ pub(crate) struct Column(pub usize, pub u64);
 
 impl Column {
     // Writes the number at the end of a room, and lends its bytes with the blanks before them.
-    pub fn write(self, room: &mut [u8; ROOM]) -> &[u8]
+    pub(crate) fn write(self, room: &mut [u8; ROOM]) -> &[u8]
         requires { self.0 ≤ ROOM }
         ensures bytes { result.now ≡ padded self.0 self.1 }
         ensures reads_back { field_number result.now ≡ Some self.1 }

@@ -1,6 +1,9 @@
-// Sample runs of a plan, and what the law of plans says of them.
+// Sample runs of a plan, what the law of plans says of them, and a representation of nothing but the acts.
 #![tactic(auto)]
 
+mod acts;
+#[cfg(test)]
+mod acts_tests;
 mod asked;
 mod ending;
 mod new_plan;
@@ -10,6 +13,7 @@ mod tests;
 mod trial;
 mod wanted;
 
+pub use acts::Acts;
 pub use asked::Asked;
 pub use new_plan::{TwoCalls, two_calls};
 pub use sample::{Sample, sample_run};
