@@ -2,3 +2,5 @@
 pub mod Rows
 pub mod Changing
 pub mod Reaching
+pub mod Combining
+pub mod Tallying

@@ -1,5 +1,5 @@
 -- The edges of a graph on modules 0 to 63.
-use Rattle.std.specs.Prelude.{◌≡◌, ℕ, Bool, true, false, cond, ◌&&◌, List, nat_lt, slice_index_or}
+use Rattle.std.specs.Prelude.{◌≡◌, ℕ, ◌<◌, Bool, true, false, cond, ◌&&◌, List, nat_lt, slice_index_or}
 use Rattle.graphs.specs.declared.graph.Graph.{Graph}
 use Rattle.module_set.specs.Members.{member, no_module}
 use Rattle.module_set.specs.declared.set.ModuleSet.{ModuleSet}
@@ -31,3 +31,7 @@ row_of g i = slice_index_or g.rows i no_module
 abbrev pub RowChanged : (ModuleSet → ModuleSet → Type 0) → Bool → ModuleSet → ModuleSet → Type 0
 RowChanged Makes true old new = Makes old new
 RowChanged Makes false old new = new ≡ old
+
+-- each row of a graph is made of the rows of two
+pub record RowsMade (Makes : ModuleSet → ModuleSet → ModuleSet → Type 0) (g h made : Graph) : Type 0 where
+  pub each : (i : ℕ) → i < 64 → Makes (row_of g i) (row_of h i) (row_of made i)

@@ -1,4 +1,5 @@
 // A graph on modules 0 to 63, as the set of successors of each module.
+mod combining;
 mod edits;
 mod reads;
 

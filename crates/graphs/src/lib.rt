@@ -2,5 +2,6 @@
 #![tactic(auto)]
 
 mod graph;
+mod tally;
 
 pub use graph::Graph;

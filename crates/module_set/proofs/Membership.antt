@@ -7,7 +7,7 @@ use Rattle.std.proofs.lemmas.Bool.Decides.{nat_tests}
 use Rattle.plans.proofs.Searches.{count_same, first_is, first_tells, some_tells, some_from, none_from}
 use Rattle.plans.specs.First.{IsFirst}
 use Rattle.plans.specs.Search.{first_below, some_below}
-use Rattle.module_set.proofs.Bits.{or_bit, minus_bit, power_bit, zero_bit, ones_count, trailing_tells}
+use Rattle.module_set.proofs.Bits.{or_bit, and_bit, minus_bit, power_bit, zero_bit, ones_count, trailing_tells}
 use Rattle.module_set.specs.Members.{bit_set, member, no_module, no_member, in_set, least_member, member_count}
 use Rattle.module_set.specs.declared.set.ModuleSet.{ModuleSet}
 
@@ -39,6 +39,15 @@ pub union_member :
     (s t : ModuleSet) (k : ℕ) → member (record { bits = bit_or s.bits t.bits }) k ≡ (member s k || member t k)
 unfolding member
 union_member s t k = rw (or_bit s.bits t.bits k) (grind (arith, nat_tests))
+
+pub both_member :
+    (s t : ModuleSet) (k : ℕ) → member (record { bits = bit_and s.bits t.bits }) k ≡ (member s k && member t k)
+unfolding member
+both_member s t k = rw (and_bit s.bits t.bits k) (by_cases (ltb k 64) (bit_set s.bits k) (bit_set t.bits k))
+  where
+    by_cases : (x p q : Bool) → (x && (p && q)) ≡ ((x && p) && (x && q))
+    by_cases true p q = refl
+    by_cases false p q = refl
 
 pub minus_member :
     (s t : ModuleSet) (k : ℕ)

@@ -46,6 +46,15 @@ impl ModuleSet {
         }
     }
 
+    // The members of both sets.
+    pub fn intersection(self, other: ModuleSet) -> ModuleSet
+        ensures { (k : ℕ) → member result k ≡ (member self k && member other k) }
+    {
+        ModuleSet {
+            bits: self.bits & other.bits,
+        }
+    }
+
     // The members that the other set lacks.
     pub fn minus(self, other: ModuleSet) -> ModuleSet
         ensures { (k : ℕ) → member result k ≡ (member self k && not (member other k)) }

@@ -1,9 +1,11 @@
 // Making a graph and reading its edges.
-ghost use Rattle.std.specs.Prelude.{◌≡◌, ℕ, false};
+ghost use Rattle.std.specs.Prelude.{◌≡◌, ℕ, ◌<◌, false, slice_index};
 ghost use Rattle.graphs.specs.Edges.{edge, two_steps};
+ghost use Rattle.graphs.specs.Tallies.{edges_to};
 ghost use Rattle.module_set.specs.Members.{member};
 
 use super::Graph;
+use crate::tally::Tally;
 use module_set::ModuleSet;
 
 impl Graph {
@@ -46,6 +48,21 @@ impl Graph {
             }
         }
         found
+    }
+
+    // How many modules have an edge to each of 0 to 63.
+    pub fn predecessor_counts(&self) -> [usize; 64]
+        ensures { (j : ℕ) → j < 64 → slice_index result j ≡ edges_to self.now j }
+    {
+        let mut tally = Tally::new();
+        for row in &self.rows {
+            tally.add(*row);
+        }
+        let mut counts = [0; 64];
+        for (j, count) in counts.iter_mut().enumerate() {
+            *count = tally.count(j);
+        }
+        counts
     }
 
     // The modules to which a successor of i has an edge.
