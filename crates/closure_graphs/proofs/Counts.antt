@@ -17,7 +17,7 @@ use Rattle.closure_graphs.specs.Shown.{Shown}
 use Rattle.table_tests.specs.declared.build.TwoGraphs.{TwoGraphs}
 
 -- nothing passes from m on, so counting further adds nothing
-count_further : (m d : ℕ) (p : ℕ → Bool) → ((k : ℕ) → m ≤ k → p k ≡ false) → count_below (m + d) p ≡ count_below m p
+pub count_further : (m d : ℕ) (p : ℕ → Bool) → ((k : ℕ) → m ≤ k → p k ≡ false) → count_below (m + d) p ≡ count_below m p
 count_further m zero p none = ap (λ n. count_below n p) (omega arith)
 count_further m (suc d) p none =
     let ih = count_further m d p none in
@@ -26,7 +26,7 @@ count_further m (suc d) p none =
     ap (λ k. count_below k p) n ∙ rw e (omega arith)
 
 -- two tests that never pass together count as one of either
-count_either :
+pub count_either :
     (n : ℕ) (p q r : ℕ → Bool) → ((k : ℕ) → cond (p k) 1 0 + cond (q k) 1 0 ≡ cond (r k) 1 0)
     → count_below n p + count_below n q ≡ count_below n r
 count_either zero p q r e = refl

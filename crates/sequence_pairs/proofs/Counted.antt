@@ -1,22 +1,10 @@
--- The two sequences of a feasible table by counting, and the floorplan that they make.
-use Rattle.std.proofs.Common.{◌≡◌, ℕ, ◌*◌, ◌<◌, ◌≤◌, Bool, List, length, get_or, take, sym, ap, ◌∙◌, ap₂, arith}
+-- A sequence in which each module stands at the place that counts those before it.
+use Rattle.std.proofs.Common.{◌≡◌, ℕ, ◌<◌, ◌≤◌, Bool, List, length, get_or, take, sym, ap, ◌∙◌, arith}
 use Rattle.std.proofs.lemmas.List.{same_lists, length-take-le, get_or-take, get_or_default}
 use Rattle.plans.proofs.Orders.{ordered_by_count}
-use Rattle.plans.proofs.PairLaw.{pair_law, other_order}
-use Rattle.plans.proofs.Sequences.{sequence_determined}
 use Rattle.plans.specs.Orders.{TotalOrder}
-use Rattle.plans.specs.SequencePairs.{from_pair, other_sequence}
-use Rattle.plans.specs.Sequences.{count_before, ordered_by, fitting}
-use Rattle.plans.specs.Tables.{Table, Floorplan, Feasible, FeasibleTable, table_of}
-use Rattle.sequence_pairs.specs.Counting.{fitting_plan, stands_before}
-use Rattle.sequence_pairs.specs.Keeping.{AtPlaces, Distinct, pair_of}
-use Rattle.sequence_pairs.specs.declared.small_table.Which.{Which}
-use Rattle.sequence_pairs.specs.declared.small_table.Which.TheVariants.{Packing, Other}
-
--- both sequences of a feasible table run along total orders
-pub stands_order : (m : ℕ) (c : Table) → FeasibleTable m c → (which : Which) → TotalOrder m (stands_before which c)
-stands_order m c law Packing = (sequence_determined m c law).order
-stands_order m c law Other = other_order m c law
+use Rattle.plans.specs.Sequences.{count_before, ordered_by}
+use Rattle.sequence_pairs.specs.Keeping.{AtPlaces, Distinct}
 
 module _ (m : ℕ) (before : ℕ → ℕ → Bool) (o : TotalOrder m before) (places : List ℕ)
     (counted : (j : ℕ) → j < m → get_or places j 0 ≡ count_before m before j) where
@@ -46,19 +34,3 @@ module _ (m : ℕ) (before : ℕ → ℕ → Bool) (o : TotalOrder m before) (pl
       get_or-take m modules k d i ∙ get_or_default modules k d 0 (omega arith)
       ∙ ap (λ p. get_or modules p 0) (sym (counted x low ∙ same)) ∙ (at x low).1
       ∙ get_or_default (ordered_by m before) k 0 d (omega (arith, by.runs.long)))
-
--- a feasible floorplan has the sequence that fits its table
-pub refit : (q : Floorplan) → Feasible q → fitting_plan q.size q.codes ≡ q
-refit q f =
-    let e = (sequence_determined q.size (table_of q.size q.codes) f.table).only q.sequence f.fits in
-    λ i. record { size = q.size; codes = q.codes; sequence = sym e i }
-
--- the sequences by counting make the floorplan of the table
-pub counted_plan_lem :
-    (m : ℕ) (codes second first : List ℕ) → length codes ≡ m * m → FeasibleTable m (table_of m codes)
-    → take m second ≡ other_sequence m (table_of m codes) → take m first ≡ fitting m (table_of m codes)
-    → pair_of m second first ≡ fitting_plan m codes
-counted_plan_lem m codes second first full law p q =
-    ap₂ from_pair p q
-    ∙ pair_law.determined (fitting_plan m codes)
-    (record { full = full; table = law; fits = (sequence_determined m (table_of m codes) law).fits })

@@ -1,5 +1,6 @@
 -- What the proofs of the sequence pair share.
-pub mod Ranges
-pub mod Told
 pub mod Counted
-pub mod Changed
+pub mod Following
+pub mod HandedOut
+pub mod TakenIn
+pub mod ThroughGraphs

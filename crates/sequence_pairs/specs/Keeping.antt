@@ -1,5 +1,5 @@
 -- How a sequence and the places of its modules are kept.
-use Rattle.std.specs.Prelude.{◌≡◌, ℕ, ◌<◌, List, take, slice_index}
+use Rattle.std.specs.Prelude.{◌≡◌, ℕ, ◌<◌, Bool, ◌&&◌, List, take, nat_lt, slice_index}
 use Rattle.plans.specs.SequencePairs.{from_pair}
 use Rattle.plans.specs.Tables.{Floorplan}
 
@@ -12,6 +12,10 @@ abbrev pub Distinct : ℕ → List ℕ → Type 0
 Distinct m places =
     ((i : ℕ) → i < m → slice_index places i < m)
     × ((i j : ℕ) → i < m → j < m → slice_index places i ≡ slice_index places j → i ≡ j)
+
+-- i stands before j, and both are modules
+abbrev pub before_by : ℕ → List ℕ → ℕ → ℕ → Bool
+before_by m places i j = nat_lt i m && (nat_lt j m && nat_lt (slice_index places i) (slice_index places j))
 
 -- the floorplan of m modules by two sequences, in the first places of two lists
 abbrev pub pair_of : ℕ → List ℕ → List ℕ → Floorplan

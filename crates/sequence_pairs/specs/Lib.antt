@@ -1,7 +1,5 @@
 -- What a sequence pair means, and how its parts are told.
 pub mod Keeping
 pub mod Meaning
-pub mod Counting
-pub mod Changing
 pub mod ToldLemmas
 pub mod Kept

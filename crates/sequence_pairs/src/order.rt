@@ -1,6 +1,10 @@
 // A sequence of modules with the place of each.
-ghost use Rattle.std.specs.Prelude.{◌≡◌, ◌<◌, ◌≤◌, cond, length, nat_lt, slice_index};
-ghost use Rattle.sequence_pairs.specs.Keeping.{AtPlaces, Distinct};
+ghost use Rattle.std.specs.Prelude.{◌≡◌, ℕ, ◌<◌, ◌≤◌, cond, length, nat_lt, slice_index};
+ghost use Rattle.graphs.specs.Edges.{edge};
+ghost use Rattle.sequence_pairs.specs.Keeping.{AtPlaces, Distinct, before_by};
+
+use graphs::Graph;
+use module_set::ModuleSet;
 
 // Up to 64 modules, in the first places of a list, and the place of each of them. Both lists have room for 64, since
 // a change may not use the heap.
@@ -27,6 +31,20 @@ impl Order {
         }
     }
 
+    // The modules in this order, of which no two are the same.
+    pub(crate) fn of_modules(count: usize, modules: [usize; 64]) -> Order
+        requires few { count ≤ 64 }
+        requires distinct { Distinct count modules }
+        ensures count { result.count ≡ count }
+        ensures modules { result.modules ≡ modules }
+    {
+        Order {
+            count,
+            modules,
+            places: inverse(count, &modules),
+        }
+    }
+
     // The modules at these places, of which no two are the same.
     pub(crate) fn at_places(count: usize, places: [usize; 64]) -> Order
         requires few { count ≤ 64 }
@@ -34,13 +52,9 @@ impl Order {
         ensures count { result.count ≡ count }
         ensures places { result.places ≡ places }
     {
-        let mut modules = [0; 64];
-        for (module, place) in places[..count].iter().enumerate() {
-            modules[*place] = module;
-        }
         Order {
             count,
-            modules,
+            modules: inverse(count, &places),
             places,
         }
     }
@@ -60,4 +74,31 @@ impl Order {
     {
         self.places[i] < self.places[j]
     }
+
+    // The graph with an edge from each module to each that stands after it.
+    pub(crate) fn followers(&self) -> Graph
+        ensures { (i j : ℕ) → edge result i j ≡ before_by self.now.count self.now.places i j }
+    {
+        let mut graph = Graph::empty();
+        let mut met = ModuleSet::empty();
+        for place in (0..self.count).rev() {
+            let module = self.modules[place];
+            graph.set_successors(module, met);
+            met = met.with(module);
+        }
+        graph
+    }
+}
+
+// Where each of the first entries of a list stands, of which no two are the same.
+fn inverse(count: usize, entries: &[usize; 64]) -> [usize; 64]
+    requires few { count ≤ 64 }
+    requires distinct { Distinct count entries.now }
+    ensures { AtPlaces count result entries.now }
+{
+    let mut stands = [0; 64];
+    for (k, entry) in entries[..count].iter().enumerate() {
+        stands[*entry] = k;
+    }
+    stands
 }

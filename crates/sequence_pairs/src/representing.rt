@@ -2,10 +2,11 @@
 ghost use Rattle.sequence_pairs.specs.Meaning.{meant};
 ghost use Rattle.sequence_pairs.specs.ToldLemmas.{meant_feasible};
 
-use crate::loading::loaded_pair;
 use crate::pair::SequencePair;
-use plans::{Change, ChangeRefusal, Direction, LoadRefusal};
+use closure_graphs::ClosureGraphs;
+use plans::{ChangeRefusal, Direction, LoadRefusal};
 use representations::Representation;
+use table_tests::TwoGraphs;
 
 impl Representation for SequencePair {
     ghost means = { meant };
@@ -35,19 +36,46 @@ impl Representation for SequencePair {
     }
 
     fn load(&mut self, codes: &[u8], sequence: &[usize]) -> Result<(), LoadRefusal> {
-        *self = loaded_pair(codes, sequence)?;
+        *self = SequencePair::of_graphs(&ClosureGraphs::loaded(codes, sequence)?);
+        Ok(())
+    }
+
+    fn to_graphs(&self) -> ClosureGraphs {
+        let packing = self.packing.followers();
+        let other = self.other.followers();
+        ClosureGraphs {
+            size: self.packing.count,
+            graphs: TwoGraphs {
+                right: packing.intersection(&other),
+                above: packing.minus(&other),
+            },
+            sequence: self.packing.modules,
+        }
+    }
+
+    fn load_graphs(&mut self, graphs: &ClosureGraphs) -> Result<(), LoadRefusal> {
+        *self = SequencePair::of_graphs(graphs);
         Ok(())
     }
 
     fn swap(&mut self, a: usize, b: usize) -> Result<(), ChangeRefusal> {
-        self.change(Change::Swap(a, b))
+        let mut graphs = self.to_graphs();
+        graphs.swap(a, b)?;
+        *self = SequencePair::of_graphs(&graphs);
+        Ok(())
     }
 
     fn reverse(&mut self, a: usize, b: usize) -> Result<(), ChangeRefusal> {
-        self.change(Change::Reverse(a, b))
+        let mut graphs = self.to_graphs();
+        graphs.reverse(a, b)?;
+        *self = SequencePair::of_graphs(&graphs);
+        Ok(())
     }
 
     fn move_edge(&mut self, a: usize, b: usize) -> Result<(), ChangeRefusal> {
-        self.change(Change::MoveEdge(a, b))
+        let mut graphs = self.to_graphs();
+        graphs.move_edge(a, b)?;
+        *self = SequencePair::of_graphs(&graphs);
+        Ok(())
     }
 }

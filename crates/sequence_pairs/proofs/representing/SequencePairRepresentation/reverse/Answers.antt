@@ -1,0 +1,8 @@
+-- The pair of the changed graphs means the changed floorplan.
+use Rattle.plans.specs.declared.change.Change.TheVariants.{Reverse}
+use Rattle.sequence_pairs.proofs.ThroughGraphs.{through_graphs}
+use Rattle.sequence_pairs.proofs.representing.SequencePairRepresentation.reverse.Goals as goal
+
+pub returns : goal.returns
+returns c =
+    through_graphs (Reverse c.args.a c.args.b) c.reverse.result _ _ _ _ _ c.to_graphs-graphs.ensures c.of_graphs.ensures c.in_ok-reverse.was c.reverse.ensures
