@@ -1,6 +1,6 @@
 -- That a graph is closed at a module, found by passing over what its successors lead to.
-use Rattle.std.proofs.Common.{◌≡◌, ℕ, ◌<◌, ◌≢◌, ◌⊎◌, Bool, true, false, not, ◌&&◌, Some, eqb, sym, refl, ap, ◌∙◌, inl, inr}
-use Rattle.std.proofs.lemmas.Bool.{true≢false, and_parts, cases_eq, eq-eqb, ne_eqb}
+use Rattle.std.proofs.Common.{◌≡◌, ℕ, ◌<◌, ◌≢◌, true, false, not, ◌&&◌, Some, eqb, sym, refl, ap, ◌∙◌, inl, inr}
+use Rattle.std.proofs.lemmas.Bool.{cases_Bool, true≢false, and_parts, cases_eq, eq-eqb, ne_eqb}
 use Rattle.graphs.specs.Edges.{edge}
 use Rattle.graphs.specs.declared.graph.Graph.{Graph}
 use Rattle.module_set.proofs.Membership.{member_in_set, in_set_from}
@@ -14,10 +14,6 @@ use Rattle.table_tests.specs.Walked.{ClosedAt}
 pub record LeftAt (g : Graph) (i : ℕ) (rest : ModuleSet) : Type 0 where
   pub inside : (j : ℕ) → member rest j ≡ true → edge g i j ≡ true
   pub covered : (j k : ℕ) → edge g i j ≡ true → member rest j ≡ false → edge g j k ≡ true → edge g i k ≡ true
-
-true_or_false : (b : Bool) → (b ≡ true) ⊎ (b ≡ false)
-true_or_false true = inl refl
-true_or_false false = inr refl
 
 -- of a successor j of i
 module _ (g : Graph) (i j : ℕ) (own beyond : ModuleSet) (own_is : (k : ℕ) → member own k ≡ edge g i k)
@@ -38,7 +34,7 @@ module _ (g : Graph) (i j : ℕ) (own beyond : ModuleSet) (own_is : (k : ℕ) �
 
     taken_out : member left j ≡ false
     taken_out =
-        elim (true_or_false (member left j)) [
+        elim (cases_Bool (member left j)) [
           | inl there ↦ absurd (true≢false (sym (left_before j there).1 ∙ ap not (eq-eqb j j refl)))
           | inr out ↦ out
         ]
@@ -51,7 +47,7 @@ module _ (g : Graph) (i j : ℕ) (own beyond : ModuleSet) (own_is : (k : ℕ) �
 
     led_to : (k : ℕ) → member rest k ≡ true → member left k ≡ false → k ≢ j → edge g j k ≡ true
     led_to k there out other =
-        elim (true_or_false (member beyond k)) [
+        elim (cases_Bool (member beyond k)) [
           | inl led ↦ sym (beyond_is k) ∙ led
           | inr beside ↦
               let kept : member taken k ≡ true = taken_is k ∙ rw (there, ne_eqb k j other) refl in
@@ -63,7 +59,7 @@ module _ (g : Graph) (i j : ℕ) (own beyond : ModuleSet) (own_is : (k : ℕ) �
     left_more before closed within = record {
       inside = λ k h. before.inside k (left_before k h).0;
       covered = λ k l here out next.
-          elim (true_or_false (member rest k)) [
+          elim (cases_Bool (member rest k)) [
             | inr passed ↦ before.covered k l here passed next
             | inl there ↦
                 elim (cases_eq k j) [

@@ -14,6 +14,7 @@ use Rattle.plans.specs.First.{IsFirst}
 use Rattle.plans.specs.Search.{first_below, first_pair}
 use Rattle.plans.specs.Tables.{Table, table_of}
 use Rattle.plans.specs.Tests.{not_closed}
+use Rattle.table_tests.proofs.GraphRows.{code_shown, edge_shown}
 use Rattle.table_tests.specs.Closure.{lacks, missing}
 use Rattle.table_tests.specs.Tested.{Shows}
 
@@ -86,12 +87,6 @@ module _ (m : ℕ) (few : m ≤ 64) (c : Table) (within : (i j : ℕ) → 0 < c 
   abbrev opens : ℕ → ℕ → ℕ → Bool
   opens i k j = ltb 0 (c i j) && eqb (c i j) (c j k) && not (eqb (c i k) (c i j))
 
-  shown : (code : ℕ) (g : Graph) → Shows c code g → (i j : ℕ) → edge g i j ≡ true → c i j ≡ code
-  shown code g shows i j e = let s = shows i j in grind (arith, nat_tests)
-
-  shows_edge : (code : ℕ) (g : Graph) → Shows c code g → (i j : ℕ) → c i j ≡ code → edge g i j ≡ true
-  shows_edge code g shows i j e = let s = shows i j in grind (arith, nat_tests)
-
   -- a graph that lacks an edge opens the table
   lacks_opens :
       (code : ℕ) (g : Graph) → 0 < code → Shows c code g → (i k : ℕ)
@@ -99,11 +94,11 @@ module _ (m : ℕ) (few : m ≤ 64) (c : Table) (within : (i j : ℕ) → 0 < c 
   lacks_opens code g some shows i k none =
       elim (steps_over g i k) [
         | inl (e, (j, p, q)) ↦
-            let first = shown code g shows i j p in
-            let second = shown code g shows j k q in
+            let first = code_shown c code g shows i j p in
+            let second = code_shown c code g shows j k q in
             let inside = within i j (rw first some) in
             let third = test_false (c i j) (c j k) (c i k) (rw first some) (first ∙ sym second) (none j inside.1) in
-            rw (e, shows_edge code g shows i k (third ∙ first)) refl
+            rw (e, edge_shown c code g shows i k (third ∙ first)) refl
         | inr r ↦ rw r.0 refl
       ]
 
@@ -113,7 +108,7 @@ module _ (m : ℕ) (few : m ≤ 64) (c : Table) (within : (i j : ℕ) → 0 < c 
   opens_lacks code g shows i k j h e unclosed =
       let (some, same, other) = test_true (c i j) (c j k) (c i k) unclosed in
       let two =
-      steps_from g i j k (omega arith) (shows_edge code g shows i j e) (shows_edge code g shows j k (sym same ∙ e))
+      steps_from g i j k (omega arith) (edge_shown c code g shows i j e) (edge_shown c code g shows j k (sym same ∙ e))
       in
       let gap : edge g i k ≡ false = let s = shows i k in grind (arith, nat_tests) in
       rw (two, gap) refl

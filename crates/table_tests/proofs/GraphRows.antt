@@ -21,6 +21,13 @@ pub shows_inside :
     → (i j : ℕ) → edge g i j ≡ true → j < m
 shows_inside m codes code g some shows i j e = (coded_within m codes code i j some (sym (shows i j) ∙ e)).1
 
+-- an edge of it is its code, and the other way round
+pub code_shown : (c : Table) (code : ℕ) (g : Graph) → Shows c code g → (i j : ℕ) → edge g i j ≡ true → c i j ≡ code
+code_shown c code g shows i j e = let s = shows i j in grind (arith, nat_tests)
+
+pub edge_shown : (c : Table) (code : ℕ) (g : Graph) → Shows c code g → (i j : ℕ) → c i j ≡ code → edge g i j ≡ true
+edge_shown c code g shows i j e = let s = shows i j in grind (arith, nat_tests)
+
 -- a graph that has the rows below n, and no other
 abbrev pub Built : Table → ℕ → ℕ → Graph → Type 0
 Built c code n g = (k j : ℕ) → edge g k j ≡ (ltb k n && eqb (c k j) code)

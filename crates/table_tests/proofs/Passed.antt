@@ -1,7 +1,7 @@
 -- What codes that pass the first tests tell of their graphs.
 use Rattle.std.proofs.Common.{◌≡◌, ℕ, ◌*◌, ◌<◌, ◌≤◌, false, cond, not, eqb, ltb, List, length, Some, None, Option, ap, ◌∙◌, inl, inr, arith}
 use mathlib.Core.Path.{fun_ext}
-use Rattle.std.proofs.lemmas.Bool.{or_parts, ltb-false, eqb-true, not-false, cases_lt}
+use Rattle.std.proofs.lemmas.Bool.{or_parts, ltb-false, cases_lt}
 use Rattle.std.proofs.lemmas.Bool.Decides.{nat_tests}
 use Rattle.graphs.specs.Edges.{edge}
 use Rattle.graphs.specs.declared.graph.Graph.{Graph}
@@ -30,11 +30,6 @@ module _ (m : ℕ) (codes : List ℕ) (passed : codes_refusal 64 2 m codes ≡ N
 
   pub shape_few : m ≤ 64
   shape_few = ltb-false 64 m (or_parts (ltb 64 m) (not (eqb (length codes) (m * m))) shape).0
-
-  pub shape_full : length codes ≡ m * m
-  shape_full =
-      eqb-true (length codes) (m * m)
-      (not-false (eqb (length codes) (m * m)) (or_parts (ltb 64 m) (not (eqb (length codes) (m * m))) shape).1)
 
   no_wrong : (r : Option (ℕ × ℕ)) → IsFirstPair (code_wrong 2 (table_of m codes)) m r → telling_pair WrongCode r ≡ None
       → (i j : ℕ) → i < m → j < m → code_wrong 2 (table_of m codes) i j ≡ false

@@ -1,5 +1,5 @@
 -- One place of a walk: what its tests find, and that it is walked or not.
-use Rattle.std.proofs.Common.{◌≡◌, ℕ, ◌+◌, ◌<◌, ◌≤◌, true, false, ◌&&◌, ◌||◌, eqb, ltb, List, length, get_or, sym, ap, ◌∙◌, subst, inl, inr, arith}
+use Rattle.std.proofs.Common.{◌≡◌, ℕ, ◌+◌, ◌<◌, ◌≤◌, true, ◌&&◌, ◌||◌, eqb, ltb, List, length, get_or, sym, ap, ◌∙◌, subst, inl, inr, arith}
 use Rattle.std.proofs.lemmas.Bool.{cases_eq}
 use Rattle.std.proofs.lemmas.Bool.Decides.{nat_tests, same_from_decides}
 use Rattle.graphs.specs.Edges.{edge}
@@ -56,10 +56,9 @@ module _ (two : TwoGraphs) (s : List ℕ) (k n : ℕ) (met : ModuleSet) (next : 
   met_is j = from.standing j ∙ ap (λ l. stands_from s l j) next
 
   pub walk_more :
-      (more : ModuleSet) → length s ≤ 64 → get_or s k 0 < length s → member met (get_or s k 0) ≡ false
-      → GoesOn two (get_or s k 0) (member met)
+      (more : ModuleSet) → length s ≤ 64 → get_or s k 0 < length s → GoesOn two (get_or s k 0) (member met)
       → ((j : ℕ) → member more j ≡ (member met j || (ltb j 64 && eqb j (get_or s k 0)))) → WalkedFrom two s k more
-  walk_more more few inside new on adds = record {
+  walk_more more few inside on adds = record {
     standing = λ j. adds j ∙ (λ i. met_is j i || small j i) ∙ standing_more s k j here;
     walked = λ l after within.
         elim (cases_eq l k) [
@@ -74,16 +73,10 @@ module _ (two : TwoGraphs) (s : List ℕ) (k n : ℕ) (met : ModuleSet) (next : 
       at_place : WalkedAt two s k
       at_place = record {
         listed = inside;
-        last = sym (met_is (get_or s k 0)) ∙ new;
         onward = record { exactly = λ j. on.exactly j ∙ met_is j; closed = on.closed };
       }
 
-  -- what the tests there ask holds in a walk
-  module _ (walked : Walked two s) where
-    pub walked_new : member met (get_or s k 0) ≡ false
-    walked_new = met_is (get_or s k 0) ∙ (walked k here).last
-
-    pub walked_on : GoesOn two (get_or s k 0) (member met)
-    walked_on =
-        let on = (walked k here).onward in
-        record { exactly = λ j. on.exactly j ∙ sym (met_is j); closed = on.closed }
+  pub walked_on : Walked two s → GoesOn two (get_or s k 0) (member met)
+  walked_on walked =
+      let on = (walked k here).onward in
+      record { exactly = λ j. on.exactly j ∙ sym (met_is j); closed = on.closed }

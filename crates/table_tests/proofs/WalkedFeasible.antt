@@ -1,12 +1,12 @@
 -- A table of codes up to 2 is feasible with a sequence exactly where its two graphs are walked along it.
-use Rattle.std.proofs.Common.{◌≡◌, ℕ, ◌+◌, ◌*◌, ◌<◌, ◌≤◌, ◌≢◌, ◌⊎◌, Bool, true, false, ◌||◌, eqb, ltb, List, length, get_or, sym, refl, ap, ◌∙◌, subst, inl, inr, arith}
-use Rattle.std.proofs.lemmas.Bool.{cases_eq, cases_lt, cases_order, true≢false}
+use Rattle.std.proofs.Common.{◌≡◌, ℕ, zero, suc, ◌+◌, ◌*◌, ◌<◌, ◌≤◌, ◌≢◌, ◌⊎◌, true, ◌||◌, eqb, ltb, List, length, get_or, sym, refl, ap, ◌∙◌, subst, inl, inr, arith}
+use Rattle.std.proofs.lemmas.Bool.{cases_eq, cases_lt, cases_order}
 use Rattle.std.proofs.lemmas.Bool.Decides.{nat_tests, same_from_decides}
-use Rattle.graphs.specs.Edges.{edge}
 use Rattle.graphs.specs.declared.graph.Graph.{Graph}
 use Rattle.plans.proofs.Pigeonhole.{Different, all_found}
 use Rattle.plans.proofs.TableLists.{table_within}
 use Rattle.plans.specs.Tables.{Table, Feasible, given, table_of}
+use Rattle.table_tests.proofs.GraphRows.{code_shown, edge_shown}
 use Rattle.table_tests.proofs.Standing.{standing_at, place_standing}
 use Rattle.table_tests.specs.Tested.{Shows}
 use Rattle.table_tests.specs.Walked.{ClosedAt, Walked, either_edge, stands_from}
@@ -23,13 +23,6 @@ module _ (codes s : List ℕ) (two : TwoGraphs) (right : Shows (table_of (length
   abbrev at : ℕ → ℕ
   at k = get_or s k 0
 
-  -- an edge of one graph is a code of its own
-  code_of : (code : ℕ) (g : Graph) → Shows c code g → (i j : ℕ) → edge g i j ≡ true → c i j ≡ code
-  code_of code g shows i j e = let t = shows i j in grind (arith, nat_tests)
-
-  edge_of : (code : ℕ) (g : Graph) → Shows c code g → (i j : ℕ) → c i j ≡ code → edge g i j ≡ true
-  edge_of code g shows i j e = let t = shows i j in grind (arith, nat_tests)
-
   module _ (few : m ≤ 64) (full : length codes ≡ m * m) (small : (i j : ℕ) → c i j ≤ 2) where
     -- an edge of either graph is a code that is not 0
     either_is : (i j : ℕ) → either_edge two i j ≡ ltb 0 (c i j)
@@ -45,14 +38,24 @@ module _ (codes s : List ℕ) (two : TwoGraphs) (right : Shows (table_of (length
     joining i j h = let t = either_is i j in grind (arith, nat_tests)
 
     module _ (walked : Walked two s) where
+      -- a module with an edge to itself would stand at a later place, and so at one after that
+      none_itself : (n k : ℕ) → m ≤ k + n → k < m → either_edge two (at k) (at k) ≡ true → ⊥
+      none_itself zero k end h own = absurd (omega arith)
+      none_itself (suc n) k end h own =
+          let (l, after, inside, is) = place_standing s (k + 1) (at k) (sym ((walked k h).onward.exactly (at k)) ∙ own) in
+          none_itself n l (omega arith) inside (rw is own)
+
+      none_twice : (k l : ℕ) → k < l → l < m → at k ≡ at l → ⊥
+      none_twice k l h g same =
+          none_itself m k (omega arith) (omega arith)
+          ((walked k (omega arith)).onward.exactly (at k) ∙ standing_at s (k + 1) l (at k) (omega arith) g (sym same))
+
       once : (k l : ℕ) → k < m → l < m → at k ≡ at l → k ≡ l
       once k l h g same =
           elim (cases_order k l) [
             | inl is ↦ is
-            | inr (inl less) ↦
-                absurd (true≢false (sym (standing_at s (k + 1) l (at k) (omega arith) g (sym same)) ∙ (walked k h).last))
-            | inr (inr more) ↦
-                absurd (true≢false (sym (standing_at s (l + 1) k (at l) (omega arith) h same) ∙ (walked l g).last))
+            | inr (inl less) ↦ absurd (none_twice k l less g same)
+            | inr (inr more) ↦ absurd (none_twice l k more h (sym same))
           ]
 
       different : Different m at
@@ -104,7 +107,7 @@ module _ (codes s : List ℕ) (two : TwoGraphs) (right : Shows (table_of (length
       closed_as code g shows each some i j k a b =
           let (n, h, here) = stands i (table_within m codes i j (omega arith)).0 in
           let own = subst (ClosedAt g) here (each n h) in
-          code_of code g shows i k (own j k (edge_of code g shows i j a) (edge_of code g shows j k b))
+          code_shown c code g shows i k (own j k (edge_shown c code g shows i j a) (edge_shown c code g shows j k b))
 
       closed : (g i j k : ℕ) → 0 < g → c i j ≡ g → c j k ≡ g → c i k ≡ g
       closed g i j k some a b =
@@ -139,7 +142,7 @@ module _ (codes s : List ℕ) (two : TwoGraphs) (right : Shows (table_of (length
   module _ (f : Feasible (given codes s)) where
     closed_at : (code : ℕ) (g : Graph) → Shows c code g → 0 < code → (i : ℕ) → ClosedAt g i
     closed_at code g shows some i j k a b =
-        edge_of code g shows i k (f.table.closed code i j k some (code_of code g shows i j a) (code_of code g shows j k b))
+        edge_shown c code g shows i k (f.table.closed code i j k some (code_shown c code g shows i j a) (code_shown c code g shows j k b))
 
     ahead : (k j : ℕ) → k < m → either_edge two (at k) j ≡ true → stands_from s (k + 1) j ≡ true
     ahead k j h e =
@@ -156,20 +159,9 @@ module _ (codes s : List ℕ) (two : TwoGraphs) (right : Shows (table_of (length
           | inr back ↦ let less = f.fits.forward l k g h back in absurd (omega arith)
         ]
 
-    last : (k : ℕ) → k < m → stands_from s (k + 1) (at k) ≡ false
-    last k h = settle (stands_from s (k + 1) (at k)) refl
-      where
-        settle : (b : Bool) → stands_from s (k + 1) (at k) ≡ b → b ≡ false
-        settle false e = refl
-        settle true e =
-            let (l, after, g, is) = place_standing s (k + 1) (at k) e in
-            let one = f.fits.once l k g h is in
-            absurd (omega arith)
-
     pub feasible_walked : Walked two s
     feasible_walked = λ k h. record {
       listed = f.fits.modules k h;
-      last = last k h;
       onward = record {
         exactly = λ j.
             same_from_decides (either_edge two (at k) j) (stands_from s (k + 1) j) (ahead k j h, behind k j h) (λ e. e, λ e. e);

@@ -1,5 +1,5 @@
 -- A sequence along which each module has edges to exactly those that stand after it, in two closed graphs.
-use Rattle.std.specs.Prelude.{◌≡◌, ℕ, ◌+◌, ◌<◌, Bool, true, false, ◌&&◌, ◌||◌, List, length, ◌==◌, nat_le, slice_index}
+use Rattle.std.specs.Prelude.{◌≡◌, ℕ, ◌+◌, ◌<◌, Bool, true, ◌&&◌, ◌||◌, List, length, ◌==◌, nat_le, slice_index}
 use Rattle.graphs.specs.Edges.{edge}
 use Rattle.graphs.specs.declared.graph.Graph.{Graph}
 use Rattle.plans.specs.Search.{some_below}
@@ -9,7 +9,7 @@ use Rattle.table_tests.specs.declared.build.TwoGraphs.{TwoGraphs}
 abbrev pub either_edge : TwoGraphs → ℕ → ℕ → Bool
 either_edge two i j = edge two.right i j || edge two.above i j
 
--- i has an edge to all that those have edges to which it has an edge to
+-- i has an edge of a graph to all that its successors have edges to in it
 abbrev pub ClosedAt : Graph → ℕ → Type 0
 ClosedAt g i = (j k : ℕ) → edge g i j ≡ true → edge g j k ≡ true → edge g i k ≡ true
 
@@ -26,11 +26,9 @@ pub record GoesOn (two : TwoGraphs) (i : ℕ) (ahead : ℕ → Bool) : Type 0 wh
   pub exactly : (j : ℕ) → either_edge two i j ≡ ahead j
   pub closed : BothClosedAt two i
 
--- the number at a place is one of as many modules as there are places, stands at no later one, and goes on to those
--- that do
+-- the number at a place is one of as many modules as there are places, and goes on to exactly those that stand later
 pub record WalkedAt (two : TwoGraphs) (s : List ℕ) (k : ℕ) : Type 0 where
   pub listed : slice_index s k < length s
-  pub last : stands_from s (k + 1) (slice_index s k) ≡ false
   pub onward : GoesOn two (slice_index s k) (stands_from s (k + 1))
 
 -- so at each place

@@ -17,6 +17,7 @@ pub fn tested_graphs(codes: &[u8], sequence: &[usize]) -> Result<TwoGraphs, Load
 {
     match accepted_graphs(codes, sequence) {
         Some(graphs) => Ok(graphs),
+        // the tests refuse what the pass did not accept
         None => Err(check_load(codes, sequence).unwrap_err()),
     }
 }

@@ -18,7 +18,8 @@ impl TwoGraphs {
         let mut met = ModuleSet::empty();
         for place in (0..sequence.len()).rev() {
             let module = sequence[place];
-            if module >= sequence.len() || met.contains(module) || !self.goes_on(module, met) {
+            // one that is met already would need an edge to itself, and those met have none
+            if module >= sequence.len() || !self.goes_on(module, met) {
                 return false;
             }
             met = met.with(module);
@@ -51,7 +52,7 @@ fn is_closed_at(graph: &Graph, i: usize) -> bool
         if !beyond.is_subset(successors) {
             return false;
         }
-        // since the graph is closed at j, what they lead to is beyond j too
+        // the graph is closed at j, so what those beyond lead to is beyond j too
         rest = rest.minus(beyond);
     }
     true

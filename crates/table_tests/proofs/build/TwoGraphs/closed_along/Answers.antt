@@ -2,10 +2,10 @@
 use Rattle.std.proofs.Common.{◌≡◌, ◌+◌, ◌-◌, ◌<◌, length, sym, refl, ◌∙◌, arith}
 use Rattle.std.proofs.lemmas.Bool.{true≢false, false≢true}
 use Rattle.table_tests.proofs.Standing.{none_standing}
-use Rattle.table_tests.proofs.WalkSteps.{met_closed, walk_more, walked_new, walked_on}
+use Rattle.table_tests.proofs.WalkSteps.{met_closed, walk_more, walked_on}
 use Rattle.table_tests.specs.Walked.{Walked}
 use Rattle.table_tests.proofs.build.TwoGraphs.closed_along.Goals as goal
-use Rattle.table_tests.proofs.build.TwoGraphs.closed_along.Goals.{then-module-sequence-via-then-module-sequence, then-module-sequence-via-else-module-sequence+then-contains, then-module-sequence-via-else-module-sequence+else-contains+then-not-goes_on}
+use Rattle.table_tests.proofs.build.TwoGraphs.closed_along.Goals.{then-module-sequence-via-then-module-sequence, then-module-sequence-via-else-module-sequence+then-not-goes_on}
 
 pub goes_on-requires : goal.goes_on-requires
 goes_on-requires c =
@@ -23,14 +23,9 @@ returns-then-module-sequence c =
     elim c.then-module-sequence.branch [
       | then-module-sequence-via-then-module-sequence w ↦
           let inside = (walked k here).listed in omega (arith, w.if-module-sequence.true)
-      | then-module-sequence-via-else-module-sequence+then-contains w ↦
-          true≢false
-          (sym w.if-contains.true ∙ w.contains.ensures
-          ∙ walked_new two s k c.loop-place.place c.loop-place.met next here c.loop-place.invariant walked)
-      | then-module-sequence-via-else-module-sequence+else-contains+then-not-goes_on w ↦
-          true≢false
-          (sym (w.goes_on.ensures.1 (walked_on two s k c.loop-place.place c.loop-place.met next here c.loop-place.invariant walked))
-          ∙ w.if-not-goes_on.true)
+      | then-module-sequence-via-else-module-sequence+then-not-goes_on w ↦
+          let on = walked_on two s k c.loop-place.place c.loop-place.met next here c.loop-place.invariant walked in
+          true≢false (sym (w.goes_on.ensures.1 on) ∙ w.if-not-goes_on.true)
     ]
     in
     (λ e. absurd (false≢true e), λ walked. absurd (refuted walked))
@@ -46,8 +41,8 @@ pub loop-place-preserved : goal.loop-place-preserved
 loop-place-preserved c =
     let k = c.loop-place.place - 1 in
     walk_more c.args.self.now c.args.sequence.now k c.loop-place.place c.loop-place.met (omega arith) (omega arith)
-    c.loop-place.invariant c.with-met.result c.requires.few (omega arith) (sym c.contains.ensures ∙ c.if-contains.false)
-    (c.goes_on.ensures.0 c.if-not-goes_on.false) c.with-met.ensures
+    c.loop-place.invariant c.with-met.result c.requires.few (omega arith) (c.goes_on.ensures.0 c.if-not-goes_on.false)
+    c.with-met.ensures
 
 pub returns : goal.returns
 returns c = (λ _ k inside. c.loop-place.invariant.walked k (omega arith) inside, λ _. refl)
