@@ -1,0 +1,55 @@
+// What a program in another language calls: rounds of calls to measure, over tasks that are bytes.
+#![tactic(auto)]
+
+mod bytes;
+mod cases;
+mod rounds;
+
+use cases::Cases;
+use closure_graphs::ClosureGraphs;
+use planner::Plan;
+use rounds::{Round, bare_rounds, trial_rounds};
+use sequence_pairs::SequencePair;
+use std::array;
+
+/// Loads the cases of a task, each into a representation of its own, and makes a round with each of them, as often as
+/// there are turns. The kind is 0 for two graphs and 1 for a sequence pair; the round is 0 for a change and a load, 1 for
+/// a packing, 2 for a load. Answers what the rounds answered, added up; 0 where the task can't be read.
+#[unsafe(no_mangle)]
+pub extern "C" fn surymoa_rounds(kind: u8, round: u8, turns: usize, task: &[u8]) -> u64 {
+    let (Some(round), Some(cases)) = (Round::of(round), Cases::read(task)) else {
+        return 0;
+    };
+    match kind {
+        0 => {
+            let mut graphs: [ClosureGraphs; 64] = array::from_fn(|_| ClosureGraphs::new());
+            bare_rounds(round, &mut graphs, &cases.all, turns)
+        }
+        1 => {
+            let mut pairs: [SequencePair; 64] = array::from_fn(|_| SequencePair::new());
+            bare_rounds(round, &mut pairs, &cases.all, turns)
+        }
+        _ => 0,
+    }
+}
+
+/// The same with a plan for each case; the round is a change on trial, a packing and an undo.
+#[unsafe(no_mangle)]
+pub extern "C" fn surymoa_trials(kind: u8, turns: usize, task: &[u8]) -> u64 {
+    let Some(cases) = Cases::read(task) else {
+        return 0;
+    };
+    match kind {
+        0 => {
+            let mut plans: [Plan<ClosureGraphs>; 64] =
+                array::from_fn(|_| Plan::new(ClosureGraphs::new()));
+            trial_rounds(&mut plans, &cases.all, turns)
+        }
+        1 => {
+            let mut plans: [Plan<SequencePair>; 64] =
+                array::from_fn(|_| Plan::new(SequencePair::new()));
+            trial_rounds(&mut plans, &cases.all, turns)
+        }
+        _ => 0,
+    }
+}
