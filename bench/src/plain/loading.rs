@@ -15,14 +15,10 @@ pub fn tested_rows(codes: &[u8], sequence: &[usize]) -> Result<Rows, LoadRefusal
     if let Some(i) = (0..size).find(|&i| codes[i * size + i] != 0) {
         return Err(LoadRefusal::SelfRelated(i, i));
     }
-    for i in 0..size {
-        for j in i + 1..size {
-            if (codes[i * size + j] == 0) == (codes[j * size + i] == 0) {
-                return Err(LoadRefusal::NotOneEdge(i, j));
-            }
-        }
-    }
     let rows = rows_of(codes, size);
+    if let Some((i, j)) = first_not_one(&rows, size) {
+        return Err(LoadRefusal::NotOneEdge(i, j));
+    }
     for i in 0..size {
         let missing = missing_from(&rows.right, i) | missing_from(&rows.above, i);
         if missing != 0 {
@@ -33,15 +29,45 @@ pub fn tested_rows(codes: &[u8], sequence: &[usize]) -> Result<Rows, LoadRefusal
     Ok(rows)
 }
 
+/// The first two modules, the lower number first, that have no edge or two.
+fn first_not_one(rows: &Rows, size: usize) -> Option<(usize, usize)> {
+    let mut before = [0u64; 64];
+    for i in 0..size {
+        for j in members(rows.both(i)) {
+            before[j] |= 1 << i;
+        }
+    }
+    (0..size).find_map(|i| {
+        let one = rows.both(i) ^ before[i];
+        let wrong = !one & later(i) & all(size);
+        (wrong != 0).then(|| (i, wrong.trailing_zeros() as usize))
+    })
+}
+
+/// The modules below a number.
+fn all(size: usize) -> u64 {
+    u64::MAX.checked_shl(size as u32).map_or(u64::MAX, |above| !above)
+}
+
+/// The modules above one.
+fn later(i: usize) -> u64 {
+    u64::MAX << i << 1
+}
+
 fn rows_of(codes: &[u8], size: usize) -> Rows {
     let mut rows = Rows::new();
     for i in 0..size {
-        for (j, &code) in codes[i * size..(i + 1) * size].iter().enumerate() {
-            rows.right[i] |= u64::from(code == 1) << j;
-            rows.above[i] |= u64::from(code == 2) << j;
-        }
+        let row = &codes[i * size..(i + 1) * size];
+        rows.right[i] = row_of(row, 1);
+        rows.above[i] = row_of(row, 2);
     }
     rows
+}
+
+/// The modules at which a row has a code.
+fn row_of(row: &[u8], code: u8) -> u64 {
+    // from the end, so that each bit comes in at the lowest place
+    row.iter().rev().fold(0, |bits, &found| bits << 1 | u64::from(found == code))
 }
 
 /// The modules that i reaches by two edges and by none.
@@ -62,7 +88,7 @@ fn test_sequence(rows: &Rows, sequence: &[usize]) -> Result<(), LoadRefusal> {
         met |= 1 << module;
     }
     for i in 0..size {
-        let backwards = (rows.right[i] | rows.above[i]) & before[i];
+        let backwards = rows.both(i) & before[i];
         if backwards != 0 {
             return Err(LoadRefusal::Backwards(i, backwards.trailing_zeros() as usize));
         }

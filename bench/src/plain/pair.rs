@@ -131,20 +131,23 @@ impl Floorplan for Pair {
         results: &mut [Placed],
     ) -> bool {
         let sequence = &self.packing.modules[..self.size];
+        let mut far = [(0, 0); 64];
         let mut fits = true;
         for (place, &module) in sequence.iter().enumerate() {
             let i = usize::from(module);
+            let at = self.other.places[i];
             let mut free = (0, 0);
             for &earlier in &sequence[..place] {
                 let j = usize::from(earlier);
-                if self.other.places[j] < self.other.places[i] {
-                    free.0 = results[j].right.max(free.0);
+                if self.other.places[j] < at {
+                    free.0 = free.0.max(far[j].0);
                 } else {
-                    free.1 = results[j].top.max(free.1);
+                    free.1 = free.1.max(far[j].1);
                 }
             }
             let placed = Placed::at(pin, i, free, sides[i].turned(rotated >> i & 1 == 1));
             fits &= free.0 <= placed.left && free.1 <= placed.bottom;
+            far[i] = (placed.right, placed.top);
             results[i] = placed;
         }
         fits

@@ -65,9 +65,14 @@ impl Rows {
         }
     }
 
-    /// How many modules each one has an edge to.
+    /// The modules to which one has an edge of either graph.
+    pub fn both(&self, module: usize) -> u64 {
+        self.right[module] | self.above[module]
+    }
+
+    /// How many these are.
     pub fn after(&self, module: usize) -> usize {
-        (self.right[module] | self.above[module]).count_ones() as usize
+        self.both(module).count_ones() as usize
     }
 
     pub fn swap(&mut self, size: usize, a: usize, b: usize) {
