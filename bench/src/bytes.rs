@@ -21,6 +21,12 @@ impl<'a> Bytes<'a> {
         self.byte().map(usize::from)
     }
 
+    pub fn long_count(&mut self) -> Option<usize> {
+        let (&two, rest) = self.0.split_first_chunk()?;
+        self.0 = rest;
+        Some(u16::from_le_bytes(two).into())
+    }
+
     pub fn length(&mut self) -> Option<u32> {
         let (&four, rest) = self.0.split_first_chunk()?;
         self.0 = rest;
@@ -28,12 +34,22 @@ impl<'a> Bytes<'a> {
     }
 
     pub fn sequence(&mut self, count: usize) -> Option<Vec<usize>> {
-        Some(self.several(count)?.iter().map(|&module| module.into()).collect())
+        Some(
+            self.several(count)?
+                .iter()
+                .map(|&module| module.into())
+                .collect(),
+        )
     }
 
     pub fn sides(&mut self, count: usize) -> Option<Vec<Sides>> {
         (0..count)
-            .map(|_| Some(Sides { width: self.length()?, height: self.length()? }))
+            .map(|_| {
+                Some(Sides {
+                    width: self.length()?,
+                    height: self.length()?,
+                })
+            })
             .collect()
     }
 

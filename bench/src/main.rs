@@ -1,23 +1,52 @@
 //! The comparison: our planner as a static library beside one in plain Rust.
 
 mod bytes;
+mod compare;
+mod measures;
 mod ours;
 mod plain;
 mod random;
 mod rounds;
+mod script;
+mod table;
 mod tasks;
 
-fn main() {
-    let words: Vec<String> = std::env::args().collect();
-    let n = |k: usize| words[k].parse::<usize>().unwrap();
-    let task = tasks::cases(n(5));
-    let (kind, round, turns) = (n(3) as u8, n(4) as u8, n(6));
-    let start = std::time::Instant::now();
-    let sum = match (&words[2][..], round) {
-        ("ours", 3) => ours::trials(kind, turns, &task),
-        ("plain", 3) => rounds::trials(kind, turns, &task),
-        ("ours", _) => ours::rounds(kind, round, turns, &task),
-        _ => rounds::rounds(kind, round, turns, &task),
+use measures::{Rounds, Side};
+use std::process::ExitCode;
+
+/// `compare`: that both answer the same. `table`: the measured rounds. `rounds`: some rounds of one side, for callgrind.
+fn main() -> ExitCode {
+    let words: Vec<String> = std::env::args().skip(1).collect();
+    let done = match words.first().map(String::as_str) {
+        Some("compare") => compare::compare(800),
+        Some("table") => {
+            table::print();
+            Ok(())
+        }
+        Some("rounds") => make_rounds(&words[1..]),
+        _ => Err("usage: bench compare | table | rounds SIDE KIND ROUND SIZE TURNS".to_string()),
     };
-    println!("{sum} {} ns a round", start.elapsed().as_nanos() as usize / 64 / turns.max(1));
+    match done {
+        Ok(()) => ExitCode::SUCCESS,
+        Err(why) => {
+            eprintln!("bench: {why}");
+            ExitCode::FAILURE
+        }
+    }
+}
+
+/// Makes rounds as five numbers tell: 0 for our side or 1 for plain Rust, kind, round, size and turns.
+fn make_rounds(words: &[String]) -> Result<(), String> {
+    let numbers: Result<Vec<usize>, _> = words.iter().map(|word| word.parse()).collect();
+    let Ok([side, kind, round, size, turns]) = numbers.as_deref() else {
+        return Err("rounds takes five numbers".to_string());
+    };
+    let side = if *side == 0 { Side::Ours } else { Side::Plain };
+    let rounds = Rounds {
+        kind: *kind as u8,
+        round: *round as u8,
+        size: *size,
+    };
+    println!("{}", rounds.run(side, *turns, &tasks::cases(*size)));
+    Ok(())
 }

@@ -57,7 +57,8 @@ impl Given {
     pub fn reduction_edges(&self) -> Vec<(usize, usize)> {
         let size = self.sequence.len();
         let code = |i: usize, j: usize| self.codes[i * size + j];
-        let is_bypassed = |a, b| (0..size).any(|k| code(a, k) == code(a, b) && code(k, b) == code(a, b));
+        let is_bypassed =
+            |a, b| (0..size).any(|k| code(a, k) == code(a, b) && code(k, b) == code(a, b));
         let mut edges = Vec::new();
         for a in 0..size {
             for b in 0..size {

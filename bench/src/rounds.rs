@@ -98,20 +98,13 @@ fn trial_rounds<F: Floorplan>(cases: &[Case<'_>], turns: usize) -> u64 {
     sum
 }
 
-/// As `surymoa_rounds`.
+/// Rounds 0 to 3, which are A to D, over both kinds.
 pub fn rounds(kind: u8, round: u8, turns: usize, task: &[u8]) -> u64 {
     let cases = read_cases(task).expect("a task that can be read");
-    match kind {
-        0 => bare_rounds::<Graphs>(round, &cases, turns),
+    match (kind, round) {
+        (0, 2) => trial_rounds::<Graphs>(&cases, turns),
+        (0, _) => bare_rounds::<Graphs>(round, &cases, turns),
+        (_, 2) => trial_rounds::<Pair>(&cases, turns),
         _ => bare_rounds::<Pair>(round, &cases, turns),
-    }
-}
-
-/// As `surymoa_trials`.
-pub fn trials(kind: u8, turns: usize, task: &[u8]) -> u64 {
-    let cases = read_cases(task).expect("a task that can be read");
-    match kind {
-        0 => trial_rounds::<Graphs>(&cases, turns),
-        _ => trial_rounds::<Pair>(&cases, turns),
     }
 }

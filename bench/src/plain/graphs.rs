@@ -15,7 +15,11 @@ pub struct Graphs {
 
 impl Floorplan for Graphs {
     fn new() -> Graphs {
-        Graphs { size: 0, rows: Rows::new(), sequence: [0; 64] }
+        Graphs {
+            size: 0,
+            rows: Rows::new(),
+            sequence: [0; 64],
+        }
     }
 
     fn modules(&self) -> usize {
@@ -23,11 +27,17 @@ impl Floorplan for Graphs {
     }
 
     fn code(&self, i: usize, j: usize) -> u8 {
-        self.rows.code(i, j)
+        if i < self.size && j < self.size {
+            self.rows.code(i, j)
+        } else {
+            0
+        }
     }
 
-    fn module_at(&self, place: usize) -> usize {
-        self.sequence[place].into()
+    fn module_at(&self, place: usize) -> Option<usize> {
+        self.sequence[..self.size]
+            .get(place)
+            .map(|&module| module.into())
     }
 
     fn load(&mut self, codes: &[u8], sequence: &[usize]) -> Result<(), LoadRefusal> {

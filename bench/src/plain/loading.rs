@@ -46,7 +46,9 @@ fn first_not_one(rows: &Rows, size: usize) -> Option<(usize, usize)> {
 
 /// The modules below a number.
 fn all(size: usize) -> u64 {
-    u64::MAX.checked_shl(size as u32).map_or(u64::MAX, |above| !above)
+    u64::MAX
+        .checked_shl(size as u32)
+        .map_or(u64::MAX, |above| !above)
 }
 
 /// The modules above one.
@@ -67,7 +69,9 @@ fn rows_of(codes: &[u8], size: usize) -> Rows {
 /// The modules at which a row has a code.
 fn row_of(row: &[u8], code: u8) -> u64 {
     // from the end, so that each bit comes in at the lowest place
-    row.iter().rev().fold(0, |bits, &found| bits << 1 | u64::from(found == code))
+    row.iter()
+        .rev()
+        .fold(0, |bits, &found| bits << 1 | u64::from(found == code))
 }
 
 /// The modules that i reaches by two edges and by none.
@@ -90,7 +94,10 @@ fn test_sequence(rows: &Rows, sequence: &[usize]) -> Result<(), LoadRefusal> {
     for i in 0..size {
         let backwards = rows.both(i) & before[i];
         if backwards != 0 {
-            return Err(LoadRefusal::Backwards(i, backwards.trailing_zeros() as usize));
+            return Err(LoadRefusal::Backwards(
+                i,
+                backwards.trailing_zeros() as usize,
+            ));
         }
     }
     Ok(())

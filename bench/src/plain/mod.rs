@@ -13,14 +13,14 @@ pub use pack::{pack, Chip, Pin, Placed, Sides};
 pub use pair::Pair;
 pub use plan::{Change, Plan};
 pub use refusals::{ChangeRefusal, LoadRefusal, PackRefusal};
-pub use rows::{members, Rows};
 
 /// What stands for one feasible floorplan.
 pub trait Floorplan: Copy {
     fn new() -> Self;
     fn modules(&self) -> usize;
+    /// 0 where there is no edge, and outside the plan.
     fn code(&self, i: usize, j: usize) -> u8;
-    fn module_at(&self, place: usize) -> usize;
+    fn module_at(&self, place: usize) -> Option<usize>;
     fn load(&mut self, codes: &[u8], sequence: &[usize]) -> Result<(), LoadRefusal>;
     fn swap(&mut self, a: usize, b: usize) -> Result<(), ChangeRefusal>;
     fn reverse(&mut self, a: usize, b: usize) -> Result<(), ChangeRefusal>;

@@ -36,7 +36,10 @@ pub struct Pin {
 impl Sides {
     pub fn turned(self, is_rotated: bool) -> Sides {
         if is_rotated {
-            Sides { width: self.height, height: self.width }
+            Sides {
+                width: self.height,
+                height: self.width,
+            }
         } else {
             self
         }
@@ -50,14 +53,23 @@ impl Placed {
             Some(pin) if pin.module == module => (pin.across, pin.up),
             _ => free,
         };
-        Placed { left, bottom, right: left + sides.width, top: bottom + sides.height }
+        Placed {
+            left,
+            bottom,
+            right: left + sides.width,
+            top: bottom + sides.height,
+        }
     }
 }
 
 fn chip_around(results: &[Placed]) -> Chip {
     let width = results.iter().map(|placed| placed.right).max().unwrap_or(0);
     let height = results.iter().map(|placed| placed.top).max().unwrap_or(0);
-    Chip { width, height, area: u64::from(width) * u64::from(height) }
+    Chip {
+        width,
+        height,
+        area: u64::from(width) * u64::from(height),
+    }
 }
 
 fn check(size: usize, sides: &[Sides], results: &[Placed]) -> Result<(), PackRefusal> {
@@ -68,7 +80,10 @@ fn check(size: usize, sides: &[Sides], results: &[Placed]) -> Result<(), PackRef
         return Err(PackRefusal::ShortResults);
     }
     let possible = 1..=LONGEST_SIDE;
-    match sides.iter().position(|it| !possible.contains(&it.width) || !possible.contains(&it.height)) {
+    match sides
+        .iter()
+        .position(|it| !possible.contains(&it.width) || !possible.contains(&it.height))
+    {
         Some(module) => Err(PackRefusal::WrongSide(module)),
         None => Ok(()),
     }

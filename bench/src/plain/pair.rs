@@ -73,8 +73,15 @@ impl Pair {
 
 impl Floorplan for Pair {
     fn new() -> Pair {
-        let none = Order { modules: [0; 64], places: [0; 64] };
-        Pair { size: 0, packing: none, other: none }
+        let none = Order {
+            modules: [0; 64],
+            places: [0; 64],
+        };
+        Pair {
+            size: 0,
+            packing: none,
+            other: none,
+        }
     }
 
     fn modules(&self) -> usize {
@@ -82,7 +89,8 @@ impl Floorplan for Pair {
     }
 
     fn code(&self, i: usize, j: usize) -> u8 {
-        if self.packing.places[i] >= self.packing.places[j] {
+        let is_inside = i < self.size && j < self.size;
+        if !is_inside || self.packing.places[i] >= self.packing.places[j] {
             0
         } else if self.other.places[i] < self.other.places[j] {
             1
@@ -91,8 +99,10 @@ impl Floorplan for Pair {
         }
     }
 
-    fn module_at(&self, place: usize) -> usize {
-        self.packing.modules[place].into()
+    fn module_at(&self, place: usize) -> Option<usize> {
+        self.packing.modules[..self.size]
+            .get(place)
+            .map(|&module| module.into())
     }
 
     fn load(&mut self, codes: &[u8], sequence: &[usize]) -> Result<(), LoadRefusal> {

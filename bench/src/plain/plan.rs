@@ -25,7 +25,13 @@ pub struct Plan<F> {
 
 impl<F: Floorplan> Plan<F> {
     pub fn new() -> Plan<F> {
-        Plan { current: Current { floorplan: F::new(), rotated: 0 }, before: None }
+        Plan {
+            current: Current {
+                floorplan: F::new(),
+                rotated: 0,
+            },
+            before: None,
+        }
     }
 
     pub fn floorplan(&self) -> &F {
@@ -33,7 +39,7 @@ impl<F: Floorplan> Plan<F> {
     }
 
     pub fn is_rotated(&self, module: usize) -> bool {
-        self.current.rotated >> module & 1 == 1
+        module < self.floorplan().modules() && self.current.rotated >> module & 1 == 1
     }
 
     pub fn is_on_trial(&self) -> bool {
@@ -103,6 +109,12 @@ impl<F: Floorplan> Plan<F> {
         results: &mut [Placed],
         module: usize,
     ) -> Result<Chip, PackRefusal> {
-        pack_with_rotation(self.floorplan(), self.current.rotated, sides, results, module)
+        pack_with_rotation(
+            self.floorplan(),
+            self.current.rotated,
+            sides,
+            results,
+            module,
+        )
     }
 }

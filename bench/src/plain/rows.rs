@@ -52,7 +52,10 @@ fn exchange(set: u64, a: usize, b: usize) -> u64 {
 
 impl Rows {
     pub fn new() -> Rows {
-        Rows { right: [0; 64], above: [0; 64] }
+        Rows {
+            right: [0; 64],
+            above: [0; 64],
+        }
     }
 
     pub fn code(&self, i: usize, j: usize) -> u8 {

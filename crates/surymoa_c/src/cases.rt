@@ -2,6 +2,7 @@
 ghost use Rattle.std.specs.Prelude.{◌≤◌, ◌≡◌, length};
 
 use crate::bytes::Bytes;
+use crate::calls::read_change;
 use lengths::{Plain, Sides};
 use plans::Change;
 
@@ -73,13 +74,12 @@ fn read_sequence(bytes: &mut Bytes<'_>, size: usize) -> Option<[usize; 64]> {
 fn read_sides(bytes: &mut Bytes<'_>, size: usize) -> Option<[Sides<Plain>; 64]> {
     let mut all = [no_sides(); 64];
     for sides in all.iter_mut().take(size) {
-        sides.width = Plain(bytes.length()?);
-        sides.height = Plain(bytes.length()?);
+        *sides = bytes.sides()?;
     }
     Some(all)
 }
 
-fn no_sides() -> Sides<Plain> {
+pub(crate) fn no_sides() -> Sides<Plain> {
     Sides {
         width: Plain(0),
         height: Plain(0),
@@ -90,20 +90,10 @@ fn no_sides() -> Sides<Plain> {
 fn read_changes(bytes: &mut Bytes<'_>) -> Option<[Change; 16]> {
     let mut changes = [Change::Rotate(0); 16];
     for change in changes.iter_mut() {
-        *change = read_change(bytes)?;
+        let word = bytes.byte()?;
+        *change = read_change(bytes, word)?;
     }
     Some(changes)
-}
-
-// A reverse, 3, or a move, 4, with the two modules of its edge.
-fn read_change(bytes: &mut Bytes<'_>) -> Option<Change> {
-    let word = bytes.byte()?;
-    let (a, b) = (bytes.count()?, bytes.count()?);
-    match word {
-        3 => Some(Change::Reverse(a, b)),
-        4 => Some(Change::MoveEdge(a, b)),
-        _ => None,
-    }
 }
 
 // The cases of a task.

@@ -1,14 +1,21 @@
-// What a program in another language calls: rounds of calls to measure, over tasks that are bytes.
+// What a program in another language calls, with tasks as bytes: scripts of calls with their answers, and rounds of calls to
+// measure.
 #![tactic(auto)]
 
+mod answers;
 mod bytes;
+mod calls;
 mod cases;
 mod rounds;
+mod script;
+mod trial;
 
+use answers::Answers;
 use cases::Cases;
 use closure_graphs::ClosureGraphs;
 use planner::Plan;
 use rounds::{Round, bare_rounds, trial_rounds};
+use script::run_script;
 use sequence_pairs::SequencePair;
 use std::array;
 
@@ -41,15 +48,30 @@ pub extern "C" fn surymoa_trials(kind: u8, turns: usize, task: &[u8]) -> u64 {
     };
     match kind {
         0 => {
-            let mut plans: [Plan<ClosureGraphs>; 64] =
-                array::from_fn(|_| Plan::new(ClosureGraphs::new()));
+            let mut plans: [Plan<ClosureGraphs>; 64] = array::from_fn(|_| Plan::new(
+                ClosureGraphs::new(),
+            ));
             trial_rounds(&mut plans, &cases.all, turns)
         }
         1 => {
-            let mut plans: [Plan<SequencePair>; 64] =
-                array::from_fn(|_| Plan::new(SequencePair::new()));
+            let mut plans: [Plan<SequencePair>; 64] = array::from_fn(|_| Plan::new(
+                SequencePair::new(),
+            ));
             trial_rounds(&mut plans, &cases.all, turns)
         }
         _ => 0,
     }
+}
+
+/// Makes the calls of a script at a fresh plan over two graphs, kind 0, or a sequence pair, kind 1, and writes the answers
+/// at the start of the words. Answers how many words are written.
+#[unsafe(no_mangle)]
+pub extern "C" fn surymoa_answers(kind: u8, script: &[u8], words: &mut [u64]) -> usize {
+    let mut answers = Answers::new(words);
+    match kind {
+        0 => run_script(ClosureGraphs::new(), script, &mut answers),
+        1 => run_script(SequencePair::new(), script, &mut answers),
+        _ => {}
+    }
+    answers.count()
 }

@@ -64,9 +64,7 @@ fn tried_area<R: Representation>(
     let Ok(decision) = plan.change(case.change(turn)) else {
         return 0;
     };
-    let area = plan
-        .pack(case.sides(), results)
-        .map_or(0, |chip| chip.area);
+    let area = plan.pack(case.sides(), results).map_or(0, |chip| chip.area);
     // No `unwrap`: a refusal would hold a decision, which can't be let go.
     match plan.undo(decision) {
         Ok(()) => area,

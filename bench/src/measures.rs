@@ -1,0 +1,89 @@
+//! Measuring rounds: instructions by callgrind, and times.
+
+use crate::{ours, rounds, tasks};
+use std::hint::black_box;
+use std::process::Command;
+use std::time::Instant;
+
+/// Who makes the rounds.
+#[derive(Clone, Copy, PartialEq)]
+pub enum Side {
+    Ours,
+    Plain,
+}
+
+/// Rounds of one sort, over one kind of representation.
+#[derive(Clone, Copy)]
+pub struct Rounds {
+    pub kind: u8,
+    pub round: u8,
+    pub size: usize,
+}
+
+/// The cases of a task, with each of which a turn makes a round.
+const CASES: usize = 64;
+
+/// The turns of a shorter and of a longer run under callgrind.
+const TURNS: [usize; 2] = [1, 9];
+
+/// How often each run is timed.
+const RUNS: usize = 100;
+
+impl Rounds {
+    pub fn run(self, side: Side, turns: usize, task: &[u8]) -> u64 {
+        let make = if side == Side::Ours {
+            ours::rounds
+        } else {
+            rounds::rounds
+        };
+        make(self.kind, self.round, turns, task)
+    }
+
+    /// Instructions of one round: the difference of a longer and a shorter run, by the rounds between them.
+    pub fn instructions(self, side: Side) -> u64 {
+        let [short, long] = TURNS.map(|turns| self.instructions_of_run(side, turns));
+        (long - short) / (CASES * (TURNS[1] - TURNS[0])) as u64
+    }
+
+    fn instructions_of_run(self, side: Side, turns: usize) -> u64 {
+        let words = [
+            usize::from(side == Side::Plain),
+            self.kind.into(),
+            self.round.into(),
+            self.size,
+            turns,
+        ];
+        let program = std::env::current_exe().expect("the program's own path");
+        let output = Command::new("valgrind")
+            .args(["--tool=callgrind", "--callgrind-out-file=/dev/null"])
+            .arg(program)
+            .arg("rounds")
+            .args(words.map(|word| word.to_string()))
+            .output()
+            .expect("valgrind");
+        let said = String::from_utf8_lossy(&output.stderr);
+        let count = said
+            .lines()
+            .find_map(|line| line.split_once("Collected : "));
+        count
+            .and_then(|(_, count)| count.trim().parse().ok())
+            .expect("a count of instructions")
+    }
+
+    /// Nanoseconds of one round of each side, from the least of many shorter and of many longer runs, which alternate.
+    pub fn times(self) -> [f64; 2] {
+        let task = tasks::cases(self.size);
+        let more = 256 / self.size;
+        let mut least = [[f64::MAX; 2]; 2];
+        for _ in 0..RUNS {
+            for (least, side) in least.iter_mut().zip([Side::Ours, Side::Plain]) {
+                for (least, turns) in least.iter_mut().zip([1, 1 + more]) {
+                    let start = Instant::now();
+                    black_box(self.run(side, turns, &task));
+                    *least = least.min(start.elapsed().as_nanos() as f64);
+                }
+            }
+        }
+        least.map(|[short, long]| (long - short) / (CASES * more) as f64)
+    }
+}
