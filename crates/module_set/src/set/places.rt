@@ -10,6 +10,7 @@ impl ModuleSet {
     pub fn places_of(code: u8, row: &[u8; 64]) -> ModuleSet
         ensures { (k : ℕ) → member result k ≡ (nat_lt k 64 && slice_index row.now k == code) }
     {
+        // all places are compared at once, since a step a place costs ten times as much
         ModuleSet {
             bits: u8x64::from_array(*row)
                 .simd_eq(u8x64::splat(code))
