@@ -17,7 +17,7 @@ impl Random {
 
     /// One of the numbers below a limit.
     pub fn below(&mut self, limit: usize) -> usize {
-        ((self.next() >> 32) * limit as u64 >> 32) as usize
+        (((self.next() >> 32) * limit as u64) >> 32) as usize
     }
 
     pub fn shuffled(&mut self, size: usize) -> Vec<usize> {

@@ -18,11 +18,11 @@ struct Desk<F> {
     answers: Vec<u64>,
 }
 
-/// As `surymoa_answers`.
+/// As `surymoa_answers`; there is no layer here.
 pub fn answers(kind: u8, script: &[u8]) -> Vec<u64> {
     match kind {
-        0 => run::<Graphs>(script),
-        _ => run::<Pair>(script),
+        1 => run::<Pair>(script),
+        _ => run::<Graphs>(script),
     }
 }
 

@@ -91,8 +91,8 @@ fn test_sequence(rows: &Rows, sequence: &[usize]) -> Result<(), LoadRefusal> {
         before[module] = met;
         met |= 1 << module;
     }
-    for i in 0..size {
-        let backwards = rows.both(i) & before[i];
+    for (i, before) in before[..size].iter().enumerate() {
+        let backwards = rows.both(i) & before;
         if backwards != 0 {
             return Err(LoadRefusal::Backwards(
                 i,

@@ -63,10 +63,10 @@ impl Pair {
                 left[j] += 1;
             }
         }
-        for module in 0..self.size {
+        for (module, left) in left[..self.size].iter().enumerate() {
             self.packing.put(self.size - 1 - rows.after(module), module);
             let above = rows.above[module].count_ones() as usize;
-            self.other.put(left[module] + above, module);
+            self.other.put(left + above, module);
         }
     }
 }

@@ -1,5 +1,4 @@
-// What a program in another language calls, with tasks as bytes: scripts of calls with their answers, and rounds of calls to
-// measure.
+// What a program in another language calls, with tasks as bytes: scripts of calls, and rounds of calls to measure.
 #![tactic(auto)]
 
 mod answers;
@@ -14,6 +13,7 @@ use answers::Answers;
 use cases::Cases;
 use closure_graphs::ClosureGraphs;
 use planner::Plan;
+use representations::Transposed;
 use rounds::{Round, bare_rounds, trial_rounds};
 use script::run_script;
 use sequence_pairs::SequencePair;
@@ -63,14 +63,15 @@ pub extern "C" fn surymoa_trials(kind: u8, turns: usize, task: &[u8]) -> u64 {
     }
 }
 
-/// Makes the calls of a script at a fresh plan over two graphs, kind 0, or a sequence pair, kind 1, and writes the answers
-/// at the start of the words. Answers how many words are written.
+/// Makes the calls of a script at a fresh plan over two graphs, kind 0, a sequence pair, kind 1, or the layer over two
+/// graphs, kind 2, and writes the answers at the start of the words. Answers how many words are written.
 #[unsafe(no_mangle)]
 pub extern "C" fn surymoa_answers(kind: u8, script: &[u8], words: &mut [u64]) -> usize {
     let mut answers = Answers::new(words);
     match kind {
         0 => run_script(ClosureGraphs::new(), script, &mut answers),
         1 => run_script(SequencePair::new(), script, &mut answers),
+        2 => run_script(Transposed(ClosureGraphs::new()), script, &mut answers),
         _ => {}
     }
     answers.count()
