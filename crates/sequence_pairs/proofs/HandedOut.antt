@@ -35,21 +35,21 @@ module _ (x : SequencePair) (packing other : Graph)
   second_is : (i j : ℕ) → edge other i j ≡ before_by x.packing.count x.other.places i j
   second_is i j = second i j ∙ ap (λ n. before_by n x.other.places i j) x.same
 
-  abbrev inside : ℕ → Bool
-  inside i = ltb i x.packing.count
+  abbrev is_module : ℕ → Bool
+  is_module i = ltb i x.packing.count
 
-  abbrev precedes : List ℕ → ℕ → ℕ → Bool
-  precedes places i j = ltb (get_or places i 0) (get_or places j 0)
+  abbrev placed_before : List ℕ → ℕ → ℕ → Bool
+  placed_before places i j = ltb (get_or places i 0) (get_or places j 0)
 
   pair_shown : Shown (table_in (meant x)) two
   pair_shown = (
     λ i j.
         beside i j ∙ (λ t. first i j t && second_is i j t)
-        ∙ in_both (inside i) (inside j) (precedes x.packing.places i j) (precedes x.other.places i j)
+        ∙ in_both (is_module i) (is_module j) (placed_before x.packing.places i j) (placed_before x.other.places i j)
         ∙ ap (λ n. eqb n 1) (sym (told x i j)),
     λ i j.
         over i j ∙ (λ t. first i j t && not (second_is i j t))
-        ∙ in_one (inside i) (inside j) (precedes x.packing.places i j) (precedes x.other.places i j)
+        ∙ in_one (is_module i) (is_module j) (placed_before x.packing.places i j) (placed_before x.other.places i j)
         ∙ ap (λ n. eqb n 2) (sym (told x i j)),
   )
 

@@ -67,8 +67,8 @@ module _ (x : ClosureGraphs) where
   abbrev c : Table
   c = table_in (graphs_mean x)
 
-  law : Feasible (graphs_mean x)
-  law = plan_feasible m x.graphs x.sequence x.few x.long x.feasible
+  feasible_taken : Feasible (graphs_mean x)
+  feasible_taken = plan_feasible m x.graphs x.sequence x.few x.long x.feasible
 
   -- what counts the modules beside and over one counts those before it
   pub other_counted : (j : ℕ) → beside_or_over x j ≡ count_before m (other_before c) j
@@ -76,7 +76,7 @@ module _ (x : ClosureGraphs) where
   other_counted j =
       count_either 64 (λ i. edge x.graphs.right i j) (λ i. edge x.graphs.above j i) (λ i. other_before c i j)
       (λ i.
-      let one = law.table.oneway i j in
+      let one = feasible_taken.table.oneway i j in
       rw (x.beside i j, x.over j i) (apart (c i j) (c j i) one))
       ∙ ap (λ n. count_below n (λ i. other_before c i j)) few ∙ count_further m (64 - m) (λ i. other_before c i j) outside
     where
@@ -88,21 +88,21 @@ module _ (x : ClosureGraphs) where
 
       outside : (i : ℕ) → m ≤ i → other_before c i j ≡ false
       outside i h =
-          let away = law.table.within i j in
-          let back = law.table.within j i in
+          let away = feasible_taken.table.within i j in
+          let back = feasible_taken.table.within j i in
           grind (arith, nat_tests)
 
   -- the modules of the packing sequence differ
   pub packing_distinct : Distinct m x.sequence
   packing_distinct = (
-    λ k h. rw (get_or-take m x.sequence k 0 h) at (law.fits.modules k h),
-    λ k l h i e. law.fits.once k l h i (get_or-take m x.sequence k 0 h ∙ e ∙ sym (get_or-take m x.sequence l 0 i)),
+    λ k h. rw (get_or-take m x.sequence k 0 h) at (feasible_taken.fits.modules k h),
+    λ k l h i e. feasible_taken.fits.once k l h i (get_or-take m x.sequence k 0 h ∙ e ∙ sym (get_or-take m x.sequence l 0 i)),
   )
 
   module _ (places : List ℕ) (counted : (j : ℕ) → j < m → get_or places j 0 ≡ count_before m (other_before c) j) where
     -- and so do the places of the other
     pub other_distinct : Distinct m places
-    other_distinct = counted_distinct m (other_before c) (other_order m c law.table) places counted
+    other_distinct = counted_distinct m (other_before c) (other_order m c feasible_taken.table) places counted
 
     pub pair_taken :
         (packing other : Order) → packing.count ≡ m → packing.modules ≡ x.sequence → other.count ≡ m → other.places ≡ places
@@ -110,7 +110,7 @@ module _ (x : ClosureGraphs) where
     pair_taken packing other count modules same at =
         ap₂ (λ n s. pair_of n other.modules s) count modules
         ∙ ap (λ s. from_pair s (take m x.sequence))
-        (counted_ordered m (other_before c) (other_order m c law.table) places counted other.modules
+        (counted_ordered m (other_before c) (other_order m c feasible_taken.table) places counted other.modules
         (let few = x.few in omega (arith, other.room))
         (subst (λ l. AtPlaces m other.modules l) at (subst (λ n. AtPlaces n other.modules other.places) same other.kept)))
-        ∙ pair_law.determined (graphs_mean x) law
+        ∙ pair_law.determined (graphs_mean x) feasible_taken
