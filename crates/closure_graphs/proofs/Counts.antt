@@ -1,6 +1,5 @@
 -- How many modules stand before and after each in a feasible table.
 use Rattle.std.proofs.Common.{◌≡◌, ℕ, zero, suc, ◌+◌, ◌-◌, ◌<◌, ◌≤◌, Bool, false, cond, eqb, ◌≢◌, List, length, get_or, take, set, sym, refl, ap, ◌∙◌, inl, inr, arith, length-set, get_or-set_other, get_or-set_same}
-use Rattle.std.proofs.lemmas.List.{length-take-le, get_or-take, same_lists, get_or_default}
 use Rattle.std.proofs.lemmas.Bool.{cases_eq, cases_lt, le-ltb, eq-eqb, ne_eqb}
 use Rattle.std.proofs.lemmas.Bool.Decides.{nat_tests}
 use Rattle.graphs.specs.Edges.{edge}
@@ -13,17 +12,24 @@ use Rattle.plans.specs.Orders.{OrderedByCount}
 use Rattle.plans.specs.Search.{count_below}
 use Rattle.plans.specs.Sequences.{count_before, edge_to, fitting}
 use Rattle.plans.specs.Tables.{Table, FeasibleTable}
+use Rattle.closure_graphs.proofs.Fronts.{begins_whole}
 use Rattle.closure_graphs.specs.Shown.{Shown}
 use Rattle.table_tests.specs.declared.build.TwoGraphs.{TwoGraphs}
 
 -- nothing passes from m on, so counting further adds nothing
-pub count_further : (m d : ℕ) (p : ℕ → Bool) → ((k : ℕ) → m ≤ k → p k ≡ false) → count_below (m + d) p ≡ count_below m p
+count_further : (m d : ℕ) (p : ℕ → Bool) → ((k : ℕ) → m ≤ k → p k ≡ false) → count_below (m + d) p ≡ count_below m p
 count_further m zero p none = ap (λ n. count_below n p) (omega arith)
 count_further m (suc d) p none =
     let ih = count_further m d p none in
     let e = none (m + d) (omega arith) in
     let n : m + suc d ≡ suc (m + d) = omega arith in
     ap (λ k. count_below k p) n ∙ rw e (omega arith)
+
+-- so in a count of all 64
+pub count_within : (m : ℕ) (p : ℕ → Bool) → m ≤ 64 → ((k : ℕ) → m ≤ k → p k ≡ false) → count_below 64 p ≡ count_below m p
+count_within m p few none =
+    let all : 64 ≡ m + (64 - m) = omega arith in
+    ap (λ n. count_below n p) all ∙ count_further m (64 - m) p none
 
 -- two tests that never pass together count as one of either
 pub count_either :
@@ -97,12 +103,8 @@ module _ (m : ℕ) (c : Table) (law : FeasibleTable m c) where
       let b : member t k ≡ eqb (c i k) 2 = in-t k ∙ shown.1 i k in
       let small = law.small i k in
       rw (a, b) (grind (arith, nat_tests)))
-      ∙ ap (λ n. count_below n (λ j. edge_to c i j)) (few_is) ∙ count_further m (64 - m) (λ j. edge_to c i j)
-      (λ k l. le-ltb 0 (c i k) (zero_at k l))
+      ∙ count_within m (λ j. edge_to c i j) law.few (λ k l. le-ltb 0 (c i k) (zero_at k l))
     where
-      few_is : 64 ≡ m + (64 - m)
-      few_is = let few = law.few in omega arith
-
       zero_at : (k : ℕ) → m ≤ k → c i k ≤ 0
       zero_at k l =
           elim (cases_lt 0 (c i k)) [
@@ -140,12 +142,9 @@ module _ (m : ℕ) (c : Table) (law : FeasibleTable m c) where
   placed_all i s all w =
       let few = law.few in
       let fits = (sequence_determined m c law).fits in
-      let long : length (take m s) ≡ m = length-take-le m s (omega (arith, w.0)) in
-      same_lists (take m s) (fitting m c) (long ∙ sym fits.long)
-      (λ k n h.
-      let l : k < m = omega (arith, long) in
+      begins_whole (fitting m c) s m fits.long (omega (arith, w.0))
+      (λ k l.
       let x = get_or (fitting m c) k 0 in
       let at = counted.placed x (fits.modules k l) in
       let same : place x ≡ k = fits.once (place x) k at.0 l at.1 in
-      get_or_default (take m s) k n 0 h ∙ get_or-take m s k 0 l ∙ ap (λ p. get_or s p 0) (sym same)
-      ∙ w.1 x (omega (arith, fits.modules k l)) ∙ get_or_default (fitting m c) k 0 n (omega (arith, fits.long)))
+      ap (λ p. get_or s p 0) (sym same) ∙ w.1 x (omega (arith, fits.modules k l)))

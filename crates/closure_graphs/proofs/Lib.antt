@@ -4,6 +4,7 @@ pub mod RowTables
 pub mod Counts
 pub mod RowSteps
 pub mod Directions
+pub mod Fronts
 pub mod StandsFor
 pub mod CodeRows
 pub mod Transposing

@@ -1,12 +1,12 @@
 -- Two graphs and a list of places that stand for a feasible floorplan.
-use Rattle.std.proofs.Common.{◌≡◌, ℕ, ◌<◌, ◌≤◌, true, List, length, take, get_or, sym, ap, ◌∙◌, subst, arith}
-use Rattle.std.proofs.lemmas.List.{length-take-le, same_lists, get_or_default, get_or-take}
+use Rattle.std.proofs.Common.{◌≡◌, ℕ, ◌≤◌, true, List, length, take, sym, ap, ◌∙◌, subst, arith}
 use Rattle.plans.proofs.LoadLaw.{feasible_loadable}
 use Rattle.plans.proofs.TableLists.{same_table}
 use Rattle.plans.specs.Tables.{Floorplan, Feasible, table_in, codes_of}
 use Rattle.plans.specs.Tests.{loadable}
 use Rattle.table_tests.proofs.Passed.{shown_table}
 use Rattle.table_tests.specs.declared.build.TwoGraphs.{TwoGraphs}
+use Rattle.closure_graphs.proofs.Fronts.{Begins, begins_whole}
 use Rattle.closure_graphs.specs.Shown.{Shown}
 use Rattle.closure_graphs.specs.Sound.{table_drawn, graphs_plan}
 
@@ -20,18 +20,12 @@ pub record StandsFor (p : Floorplan) (m : ℕ) (two : TwoGraphs) (s : List ℕ) 
 
 -- so do the graphs of its table, with its sequence at the front of the list
 module _ (p : Floorplan) (f : Feasible p) (m : ℕ) (size : m ≡ p.size) (two : TwoGraphs) (shown : Shown (table_in p) two)
-    (s : List ℕ) (long : length s ≡ 64) (same : (k : ℕ) → k < m → get_or s k 0 ≡ get_or p.sequence k 0) where
+    (s : List ℕ) (long : length s ≡ 64) (same : Begins m p.sequence s) where
   at_most : m ≤ 64
   at_most = omega (arith, f.table.few)
 
   first_places : take m s ≡ p.sequence
-  first_places =
-      let cut : length (take m s) ≡ m = length-take-le m s (omega (arith, at_most)) in
-      same_lists (take m s) p.sequence (cut ∙ size ∙ sym f.fits.long)
-      (λ k d h.
-      let l : k < m = omega arith in
-      get_or_default (take m s) k d 0 h ∙ get_or-take m s k 0 l ∙ same k l
-      ∙ get_or_default p.sequence k 0 d (omega (arith, f.fits.long)))
+  first_places = begins_whole p.sequence s m (f.fits.long ∙ sym size) (omega (arith, at_most)) same
 
   means_plan : graphs_plan m two s ≡ p
   means_plan =

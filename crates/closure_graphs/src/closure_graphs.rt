@@ -55,12 +55,12 @@ impl ClosureGraphs {
     {
         let graphs = tested_graphs(codes, sequence)?;
         // Fixed room, since a load may not use the heap.
-        let mut places = [0; 64];
-        places[..sequence.len()].copy_from_slice(sequence);
+        let mut padded = [0; 64];
+        padded[..sequence.len()].copy_from_slice(sequence);
         Ok(ClosureGraphs {
             size: sequence.len(),
             graphs,
-            sequence: places,
+            sequence: padded,
         })
     }
 

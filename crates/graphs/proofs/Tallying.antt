@@ -8,7 +8,7 @@ use Rattle.module_set.specs.declared.set.ModuleSet.{ModuleSet}
 use Rattle.plans.specs.Search.{count_below}
 use Rattle.graphs.proofs.Rows.{edge_inside}
 use Rattle.graphs.specs.Edges.{edge, row_of}
-use Rattle.graphs.specs.Tallies.{of_digits, has_digit, times_counted, edges_to}
+use Rattle.graphs.specs.Tallies.{of_digits, has_digit, times_counted, edges_into}
 use Rattle.graphs.specs.declared.graph.Graph.{Graph}
 use Rattle.graphs.specs.declared.tally.Tally.{Tally}
 
@@ -136,6 +136,6 @@ below_more g t u n row h is before adds k =
     ∙ ap (λ b. count_below n (λ i. edge g i k) + cond b 1 0) (ap (λ s. member s k) is ∙ sym (edge_inside g n k h))
     ∙ ap (λ m. count_below m (λ i. edge g i k)) (sym (add-one n))
 
-pub below_all : (g : Graph) (t : Tally) (n : ℕ) → n ≡ 64 → CountedBelow g t n → (k : ℕ) → times_counted t k ≡ edges_to g k
-unfolding edges_to
+pub below_all : (g : Graph) (t : Tally) (n : ℕ) → n ≡ 64 → CountedBelow g t n → (k : ℕ) → times_counted t k ≡ edges_into g k
+unfolding edges_into
 below_all g t n e below k = below k ∙ ap (λ m. count_below m (λ i. edge g i k)) e

@@ -12,7 +12,7 @@ abbrev pub of_digits : ℕ → (ℕ → Bool) → ℕ
 of_digits zero digit = 0
 of_digits (suc n) digit = of_digits n digit + cond (digit n) (2 ^ n) 0
 
--- whether a module has one of the digits
+-- whether digit p of module k's count is set
 abbrev pub has_digit : List ModuleSet → ℕ → ℕ → Bool
 has_digit digits k p = member (slice_index_or digits p no_module) k
 
@@ -21,5 +21,5 @@ unfoldable pub times_counted : Tally → ℕ → ℕ
 times_counted t k = of_digits 7 (has_digit t.digits k)
 
 -- how many modules have an edge to j
-unfoldable pub edges_to : Graph → ℕ → ℕ
-edges_to g j = count_below 64 (λ i. edge g i j)
+unfoldable pub edges_into : Graph → ℕ → ℕ
+edges_into g j = count_below 64 (λ i. edge g i j)

@@ -7,8 +7,8 @@ ghost use Rattle.std.specs.Prelude.{◌≡◌, length};
 
 use module_set::ModuleSet;
 
-// The edges from each module. A number over 63 has none. There is a row for each of 64 modules, since a change may not
-// use the heap.
+/// The edges from each module. A number over 63 has none. There is a row for each of 64 modules, since a change may not
+/// use the heap.
 #[derive(Clone, Copy)]
 pub struct Graph {
     rows: [ModuleSet; 64],

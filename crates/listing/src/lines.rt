@@ -18,7 +18,7 @@ pub(crate) fn append_line(
     requires { All (λ column. column.0 ≤ ROOM) columns.now }
     ensures { Appends out.old.items out.new.items (line_text word.now columns.now) result }
 {
-    let mut room = [b' '; ROOM];
+    let mut room = [0; ROOM];
     out.extend_from_slice(word)?;
     for column in columns {
         out.extend_from_slice(column.write(&mut room))?;

@@ -1,4 +1,4 @@
-// Sets of modules, each promised by its members; nothing else in the repository touches bits.
+// Sets of modules, each promised by its members; no other crate touches bits.
 #![tactic(auto)]
 
 mod members;

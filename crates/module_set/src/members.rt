@@ -5,7 +5,7 @@ ghost use Rattle.module_set.specs.Members.{TakesLeast, member_count};
 
 use crate::set::ModuleSet;
 
-// The members of a set that are still to come.
+/// The members of a set that are still to come.
 #[derive(Clone, Copy)]
 pub struct Members {
     rest: ModuleSet,

@@ -1,6 +1,8 @@
 // Trials undone and kept over a representation of nothing but the acts, and over a layer on it.
 use crate::Acts;
-use planner::{Decision, Plan};
+use crate::ending::{Ending, end};
+use lengths::{OneKind, Plain};
+use planner::Plan;
 use plans::Change;
 use representations::{Representation, Transposed};
 use sequence_pairs::SequencePair;
@@ -10,14 +12,6 @@ const CODES: [u8; 16] = [0, 1, 1, 1, 0, 0, 2, 1, 0, 0, 0, 1, 0, 0, 0, 0];
 
 const SEQUENCE: [usize; 4] = [0, 1, 2, 3];
 
-// Ends the trial; a refusal would hold a decision, which can't be let go.
-fn undo<R: Representation>(plan: &mut Plan<R>, decision: Decision) {
-    match plan.undo(decision) {
-        Ok(()) => {}
-        Err(_) => unreachable!(),
-    }
-}
-
 // Whether the plan has these codes, this sequence, and no open trial.
 fn is_as_loaded<R: Representation>(plan: &Plan<R>) -> bool {
     let codes = (0..16).all(|k| plan.code(k / 4, k % 4) == CODES[k]);
@@ -25,28 +19,25 @@ fn is_as_loaded<R: Representation>(plan: &Plan<R>) -> bool {
     codes && sequence && !plan.is_on_trial()
 }
 
-// Whether a change is done on trial, and its undo restores what was loaded.
-fn is_undone<R: Representation>(plan: &mut Plan<R>, change: Change) -> bool {
+// Whether a change is done on trial, and the plan is as it was loaded once the trial has ended as told.
+fn leaves_the_plan<R: Representation>(plan: &mut Plan<R>, change: Change, ending: Ending) -> bool {
     let Ok(decision) = plan.change(change) else {
         return false;
     };
-    let changed = !is_as_loaded(plan);
-    undo(plan, decision);
-    changed && is_as_loaded(plan)
+    end::<R, OneKind<Plain>>(plan, decision, ending);
+    is_as_loaded(plan)
 }
 
 // Each change undone, and a load after a trial that was kept.
-fn is_well<R: Representation>(mut plan: Plan<R>) -> bool {
+fn is_well<R: Representation + Drop>(mut plan: Plan<R>) -> bool {
     let loaded = plan.load(&CODES, &SEQUENCE).is_ok() && is_as_loaded(&plan);
-    let rotated = is_undone(&mut plan, Change::Rotate(3)) && !plan.is_rotated(3);
-    let swapped = is_undone(&mut plan, Change::Swap(0, 3));
-    let reversed = is_undone(&mut plan, Change::Reverse(0, 1));
-    let moved = is_undone(&mut plan, Change::MoveEdge(1, 2));
-    let kept = plan
-        .swap(0, 1)
-        .is_ok_and(|decision| plan.keep(decision).is_ok());
-    let again = kept && plan.module_at(0) == Some(1) && plan.load(&CODES, &SEQUENCE).is_ok();
-    loaded && rotated && swapped && reversed && moved && again && is_as_loaded(&plan)
+    let rotated = leaves_the_plan(&mut plan, Change::Rotate(3), Ending::Undo);
+    let swapped = leaves_the_plan(&mut plan, Change::Swap(0, 3), Ending::Undo);
+    let reversed = leaves_the_plan(&mut plan, Change::Reverse(0, 1), Ending::Undo);
+    let moved = leaves_the_plan(&mut plan, Change::MoveEdge(1, 2), Ending::Undo);
+    let kept = !leaves_the_plan(&mut plan, Change::Swap(0, 1), Ending::Keep);
+    let again = plan.module_at(0) == Some(1) && plan.load(&CODES, &SEQUENCE).is_ok();
+    loaded && rotated && swapped && reversed && moved && kept && again && is_as_loaded(&plan)
 }
 
 #[test]

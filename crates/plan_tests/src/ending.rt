@@ -9,6 +9,7 @@ use plans::Family;
 use representations::Representation;
 
 // What is made of the change on trial.
+#[derive(Clone, Copy)]
 pub(crate) enum Ending {
     Keep,
     Undo,

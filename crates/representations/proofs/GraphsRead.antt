@@ -6,6 +6,7 @@ use Rattle.std.proofs.lemmas.List.{get_or-set_same, get_or-set_other}
 use Rattle.module_set.specs.Members.{member}
 use Rattle.module_set.specs.declared.set.ModuleSet.{ModuleSet}
 use Rattle.plans.specs.Tables.{Table, Floorplan, Feasible, table_in, module_at}
+use Rattle.closure_graphs.proofs.Fronts.{Begins}
 use Rattle.closure_graphs.proofs.StandsFor.{StandsFor, stands_for}
 use Rattle.closure_graphs.specs.Shown.{Shown}
 use Rattle.table_tests.proofs.GraphRows.{Built, seen_below}
@@ -62,17 +63,6 @@ all_rows p f n past two beside over =
           | inr other ↦ grind (arith, nat_tests)
         ]
 
--- one place more of the sequence
-pub places_more :
-    (t s : List ℕ) (k x : ℕ) → k < length s → ((n : ℕ) → n < k → get_or s n 0 ≡ get_or t n 0) → x ≡ get_or t k 0
-    → (n : ℕ) → n < k + 1 → get_or (set s k x) n 0 ≡ get_or t n 0
-places_more t s k x room sofar here n g =
-    elim (cases_eq n k) [
-      | inl same ↦
-          subst (λ i. get_or (set s k x) i 0 ≡ get_or t i 0) (sym same) (get_or-set_same s k x 0 room ∙ here)
-      | inr other ↦ get_or-set_other s k n x 0 other ∙ sofar n (omega arith)
-    ]
-
 -- the module that is told at a place of the sequence
 pub module_there :
     (p : Floorplan) (k x : ℕ) (r : Option ℕ) → k < length p.sequence → r ≡ module_at p k → r ≡ Some x
@@ -86,6 +76,6 @@ module_there p k x r here told is =
 pub read_stands :
     (p : Floorplan) → Feasible p → (m : ℕ) → m ≡ p.size → (n : ℕ) → m ≤ n → (two : TwoGraphs)
     → Built (table_in p) 1 n two.right → Built (table_in p) 2 n two.above → (k : ℕ) → m ≤ k → (s : List ℕ)
-    → length s ≡ 64 → ((l : ℕ) → l < k → get_or s l 0 ≡ get_or p.sequence l 0) → StandsFor p m two s
+    → length s ≡ 64 → Begins k p.sequence s → StandsFor p m two s
 read_stands p f m size n past two beside over k end s long same =
     stands_for p f m size two (all_rows p f n (omega (arith, size)) two beside over) s long (λ l h. same l (omega arith))

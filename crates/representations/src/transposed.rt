@@ -7,7 +7,7 @@ use crate::representation::Representation;
 use closure_graphs::ClosureGraphs;
 use plans::{ChangeRefusal, Direction, LoadRefusal};
 
-// What the inner representation means, with codes 1 and 2 exchanged and the same sequence.
+/// What the inner representation means, with codes 1 and 2 exchanged and the same sequence.
 #[derive(Drop)]
 pub struct Transposed<R>(pub R);
 

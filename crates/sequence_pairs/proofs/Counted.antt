@@ -1,6 +1,6 @@
 -- A sequence in which each module stands at the place that counts those before it.
-use Rattle.std.proofs.Common.{◌≡◌, ℕ, ◌<◌, ◌≤◌, Bool, List, length, get_or, take, sym, ap, ◌∙◌, arith}
-use Rattle.std.proofs.lemmas.List.{same_lists, length-take-le, get_or-take, get_or_default}
+use Rattle.std.proofs.Common.{◌≡◌, ℕ, ◌<◌, ◌≤◌, Bool, List, length, get_or, take, sym, ap, ◌∙◌}
+use Rattle.closure_graphs.proofs.Fronts.{begins_whole}
 use Rattle.plans.proofs.Orders.{ordered_by_count}
 use Rattle.plans.specs.Orders.{TotalOrder}
 use Rattle.plans.specs.Sequences.{count_before, ordered_by}
@@ -23,14 +23,10 @@ module _ (m : ℕ) (before : ℕ → ℕ → Bool) (o : TotalOrder m before) (pl
   pub counted_ordered : (modules : List ℕ) → m ≤ length modules → AtPlaces m modules places → take m modules ≡ ordered_by m before
   counted_ordered modules room at =
       let by = ordered_by_count m before o in
-      let long = length-take-le m modules room in
-      same_lists (take m modules) (ordered_by m before) (long ∙ sym by.runs.long)
-      (λ k d h.
-      let i : k < m = omega (arith, long) in
+      begins_whole (ordered_by m before) modules m by.runs.long room
+      (λ k i.
       let x = get_or (ordered_by m before) k 0 in
       let low = by.runs.modules k i in
       let same : count_before m before x ≡ k =
       by.runs.once (count_before m before x) k (by.placed x low).0 i (by.placed x low).1 in
-      get_or-take m modules k d i ∙ get_or_default modules k d 0 (omega arith)
-      ∙ ap (λ p. get_or modules p 0) (sym (counted x low ∙ same)) ∙ (at x low).1
-      ∙ get_or_default (ordered_by m before) k 0 d (omega (arith, by.runs.long)))
+      ap (λ p. get_or modules p 0) (sym (counted x low ∙ same)) ∙ (at x low).1)

@@ -55,14 +55,14 @@ module _ (m : ℕ) (modules places : List ℕ) (few : m ≤ 64) (room : m ≤ le
         → Following m places k after more
     following_more graph after met more before row adds = record {
       met_is = λ j.
-          adds j ∙ ap (λ b. b || (ltb j 64 && eqb j x)) (before.met_is j) ∙ met_more j;
+          adds j ∙ ap (λ b. b || (ltb j 64 && eqb j x)) (before.met_is j) ∙ followed_more j;
       edges = λ i j.
           row i j ∙ ap (λ b. cond (ltb i 64 && eqb i x) b (edge graph i j)) (before.met_is j)
           ∙ ap (λ b. cond (ltb i 64 && eqb i x) (stands_on m places n j) b) (before.edges i j) ∙ edges_more i j;
     }
       where
-        met_more : (j : ℕ) → (stands_on m places n j || (ltb j 64 && eqb j x)) ≡ stands_on m places k j
-        met_more j =
+        followed_more : (j : ℕ) → (stands_on m places n j || (ltb j 64 && eqb j x)) ≡ stands_on m places k j
+        followed_more j =
             let inside = x-inside in
             let place = x-place in
             let one = only j in

@@ -1,14 +1,14 @@
 -- The packing sequence of closure graphs and the other sequence by counting make the pair of what they mean.
-use Rattle.std.proofs.Common.{◌≡◌, ℕ, ◌+◌, ◌-◌, ◌<◌, ◌≤◌, false, cond, ◌||◌, eqb, List, length, get_or, set, take, sym, ap, ◌∙◌, ap₂, subst, inl, inr, arith, length-set, get_or-set_other, get_or-set_same}
+use Rattle.std.proofs.Common.{◌≡◌, ℕ, ◌+◌, ◌<◌, ◌≤◌, false, cond, ◌||◌, eqb, List, length, get_or, set, take, sym, ap, ◌∙◌, ap₂, subst, inl, inr, arith, length-set, get_or-set_other, get_or-set_same}
 use Rattle.std.proofs.lemmas.Bool.{cases_eq, cases_lt}
 use Rattle.std.proofs.lemmas.Bool.Decides.{nat_tests}
 use Rattle.std.proofs.lemmas.List.{get_or-take}
-use Rattle.closure_graphs.proofs.Counts.{count_either, count_further}
+use Rattle.closure_graphs.proofs.Counts.{count_either, count_within}
 use Rattle.closure_graphs.specs.Meaning.{graphs_mean}
 use Rattle.closure_graphs.specs.Settled.{plan_feasible}
 use Rattle.closure_graphs.specs.declared.closure_graphs.ClosureGraphs.{ClosureGraphs}
 use Rattle.graphs.specs.Edges.{edge}
-use Rattle.graphs.specs.Tallies.{edges_to}
+use Rattle.graphs.specs.Tallies.{edges_into}
 use Rattle.graphs.specs.declared.graph.Graph.{Graph}
 use Rattle.module_set.specs.Members.{member, member_count}
 use Rattle.module_set.specs.declared.set.ModuleSet.{ModuleSet}
@@ -28,21 +28,21 @@ edges_from g i = count_below 64 (λ j. edge g i j)
 
 -- how many modules stand before each in the other sequence
 abbrev pub beside_or_over : ClosureGraphs → ℕ → ℕ
-beside_or_over x j = edges_to x.graphs.right j + edges_from x.graphs.above j
+beside_or_over x j = edges_into x.graphs.right j + edges_from x.graphs.above j
 
 pub successors_few : (g : Graph) (i : ℕ) (s : ModuleSet) → ((j : ℕ) → member s j ≡ edge g i j) → (member_count s ≡ edges_from g i) × (member_count s ≤ 64)
 unfolding edges_from member_count
 successors_few g i s is = (count_same 64 (member s) (λ j. edge g i j) (λ j h. is j), count_le 64 (member s))
 
-pub predecessors_few : (g : Graph) (j : ℕ) → edges_to g j ≤ 64
-unfolding edges_to
+pub predecessors_few : (g : Graph) (j : ℕ) → edges_into g j ≤ 64
+unfolding edges_into
 predecessors_few g j = count_le 64 (λ i. edge g i j)
 
 -- the places below n count both, and the others what is beside alone
 pub record Adding (x : ClosureGraphs) (n : ℕ) (places : List ℕ) : Type 0 where
   pub long : length places ≡ 64
   pub done : (k : ℕ) → k < n → get_or places k 0 ≡ beside_or_over x k
-  pub rest : (k : ℕ) → n ≤ k → k < 64 → get_or places k 0 ≡ edges_to x.graphs.right k
+  pub rest : (k : ℕ) → n ≤ k → k < 64 → get_or places k 0 ≡ edges_into x.graphs.right k
 
 pub adding_more :
     (x : ClosureGraphs) (n : ℕ) (places : List ℕ) (s : ModuleSet) (more : ℕ) → Adding x n places → n < 64
@@ -72,19 +72,16 @@ module _ (x : ClosureGraphs) where
 
   -- what counts the modules beside and over one counts those before it
   pub other_counted : (j : ℕ) → beside_or_over x j ≡ count_before m (other_before c) j
-  unfolding edges_to edges_from
+  unfolding edges_into edges_from
   other_counted j =
       count_either 64 (λ i. edge x.graphs.right i j) (λ i. edge x.graphs.above j i) (λ i. other_before c i j)
       (λ i.
       let one = feasible_taken.table.oneway i j in
       rw (x.beside i j, x.over j i) (apart (c i j) (c j i) one))
-      ∙ ap (λ n. count_below n (λ i. other_before c i j)) few ∙ count_further m (64 - m) (λ i. other_before c i j) outside
+      ∙ count_within m (λ i. other_before c i j) x.few outside
     where
       apart : (y z : ℕ) → (0 < y → z ≡ 0) → cond (eqb y 1) 1 0 + cond (eqb z 2) 1 0 ≡ cond (eqb y 1 || eqb z 2) 1 0
       apart y z one = elim (cases_lt 0 y) [ inl more ↦ let e = one more in grind (arith, nat_tests) | inr less ↦ grind (arith, nat_tests) ]
-
-      few : 64 ≡ m + (64 - m)
-      few = let small = x.few in omega arith
 
       outside : (i : ℕ) → m ≤ i → other_before c i j ≡ false
       outside i h =

@@ -7,11 +7,11 @@ use Rattle.plans.specs.Tables.{Floorplan}
 abbrev pub AtPlaces : ℕ → List ℕ → List ℕ → Type 0
 AtPlaces m modules places = (i : ℕ) → i < m → (slice_index places i < m) × (slice_index modules (slice_index places i) ≡ i)
 
--- places of m modules, all below m and no two the same
+-- the first m entries of a list, all below m and no two the same
 abbrev pub Distinct : ℕ → List ℕ → Type 0
-Distinct m places =
-    ((i : ℕ) → i < m → slice_index places i < m)
-    × ((i j : ℕ) → i < m → j < m → slice_index places i ≡ slice_index places j → i ≡ j)
+Distinct m entries =
+    ((i : ℕ) → i < m → slice_index entries i < m)
+    × ((i j : ℕ) → i < m → j < m → slice_index entries i ≡ slice_index entries j → i ≡ j)
 
 -- i stands before j, and both are modules
 abbrev pub before_by : ℕ → List ℕ → ℕ → ℕ → Bool

@@ -8,8 +8,8 @@ ghost use Rattle.plans.specs.Tables.{no_modules, table_in};
 use crate::order::Order;
 use closure_graphs::ClosureGraphs;
 
-// The packing sequence and the other one, in which a module precedes those right of it and those
-// below it, of up to 64 modules.
+/// The packing sequence and the other one, in which a module precedes those right of it and those
+/// below it, of up to 64 modules.
 #[derive(Drop)]
 pub struct SequencePair {
     pub(crate) packing: Order,
@@ -20,7 +20,7 @@ pub struct SequencePair {
 impl SequencePair {
     ghost use Rattle.sequence_pairs.specs.Meaning.{meant};
 
-    // The pair of no modules.
+    /// The pair of no modules.
     pub fn new() -> SequencePair
         ensures { meant result ≡ no_modules }
     {
@@ -31,23 +31,23 @@ impl SequencePair {
     }
 
     // The pair of closure graphs.
-    pub(crate) fn of_graphs(graphs: &ClosureGraphs) -> SequencePair
-        ensures { meant result ≡ graphs_mean graphs.now }
+    pub(crate) fn of_graphs(taken: &ClosureGraphs) -> SequencePair
+        ensures { meant result ≡ graphs_mean taken.now }
     {
         SequencePair {
-            packing: Order::of_modules(graphs.size, graphs.sequence),
-            other: Order::at_places(graphs.size, other_places(graphs)),
+            packing: Order::of_modules(taken.size, taken.sequence),
+            other: Order::at_places(taken.size, other_places(taken)),
         }
     }
 }
 
 // The place of each module in the other sequence: it counts those left of the module and those above it.
-fn other_places(graphs: &ClosureGraphs) -> [usize; 64]
-    ensures { (j : ℕ) → j < graphs.now.size → slice_index result j ≡ count_before graphs.now.size (other_before (table_in (graphs_mean graphs.now))) j }
+fn other_places(taken: &ClosureGraphs) -> [usize; 64]
+    ensures { (j : ℕ) → j < taken.now.size → slice_index result j ≡ count_before taken.now.size (other_before (table_in (graphs_mean taken.now))) j }
 {
-    let mut places = graphs.graphs.right.predecessor_counts();
+    let mut places = taken.graphs.right.predecessor_counts();
     for (j, place) in places.iter_mut().enumerate() {
-        *place += graphs.graphs.above.successors(j).len();
+        *place += taken.graphs.above.successors(j).len();
     }
     places
 }

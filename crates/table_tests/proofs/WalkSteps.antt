@@ -14,27 +14,27 @@ use Rattle.table_tests.specs.declared.build.TwoGraphs.{TwoGraphs}
 module _ (two : TwoGraphs) (i : ℕ) (own other both met : ModuleSet) (own_is : (j : ℕ) → member own j ≡ edge two.right i j)
     (other_is : (j : ℕ) → member other j ≡ edge two.above i j)
     (both_is : (j : ℕ) → member both j ≡ (member own j || member other j)) where
-  edges_are : (j : ℕ) → member both j ≡ either_edge two i j
-  edges_are j = both_is j ∙ (λ n. own_is j n || other_is j n)
+  both_edges : (j : ℕ) → member both j ≡ either_edge two i j
+  both_edges j = both_is j ∙ (λ n. own_is j n || other_is j n)
 
   -- each is in the other exactly where i has edges to just those met
   pub edges_exact : in_set both met ≡ true → in_set met both ≡ true → (j : ℕ) → either_edge two i j ≡ member met j
   edges_exact forth back j =
       same_from_decides (either_edge two i j) (member met j)
-      (λ h. member_in_set both met j forth (edges_are j ∙ h), λ h. sym (edges_are j) ∙ member_in_set met both j back h)
+      (λ h. member_in_set both met j forth (both_edges j ∙ h), λ h. sym (both_edges j) ∙ member_in_set met both j back h)
       (λ e. e, λ e. e)
 
   pub exact_forth : ((j : ℕ) → either_edge two i j ≡ member met j) → in_set both met ≡ true
-  exact_forth exact = in_set_from both met (λ j h. sym (edges_are j ∙ exact j) ∙ h)
+  exact_forth exact = in_set_from both met (λ j h. sym (both_edges j ∙ exact j) ∙ h)
 
   pub exact_back : ((j : ℕ) → either_edge two i j ≡ member met j) → in_set met both ≡ true
-  exact_back exact = in_set_from met both (λ j h. edges_are j ∙ exact j ∙ h)
+  exact_back exact = in_set_from met both (λ j h. both_edges j ∙ exact j ∙ h)
 
   -- and then both graphs are closed at its successors, where they are at those met
   pub successors_closed :
       in_set both met ≡ true → ((j : ℕ) → member met j ≡ true → BothClosedAt two j) → (j : ℕ)
       → either_edge two i j ≡ true → BothClosedAt two j
-  successors_closed forth closed j h = closed j (member_in_set both met j forth (edges_are j ∙ h))
+  successors_closed forth closed j h = closed j (member_in_set both met j forth (both_edges j ∙ h))
 
 -- what is met where the places from k on are walked
 pub record WalkedFrom (two : TwoGraphs) (s : List ℕ) (k : ℕ) (met : ModuleSet) : Type 0 where
@@ -47,7 +47,7 @@ pub met_closed :
     → BothClosedAt two j
 met_closed two s k met from j h =
     let (l, after, inside, is) = place_standing s k j (sym (from.standing j) ∙ h) in
-    subst (BothClosedAt two) is (from.walked l after inside).onward.closed
+    subst (BothClosedAt two) is (from.walked l after inside).goes_on.closed
 
 -- one place before the walked ones
 module _ (two : TwoGraphs) (s : List ℕ) (k n : ℕ) (met : ModuleSet) (next : n ≡ k + 1) (here : k < length s)
@@ -62,7 +62,7 @@ module _ (two : TwoGraphs) (s : List ℕ) (k n : ℕ) (met : ModuleSet) (next : 
     standing = λ j. adds j ∙ (λ i. met_is j i || small j i) ∙ standing_more s k j here;
     walked = λ l after within.
         elim (cases_eq l k) [
-          | inl same ↦ subst (WalkedAt two s) (sym same) at_place
+          | inl same ↦ subst (WalkedAt two s) (sym same) walked_here
           | inr other ↦ from.walked l (omega (arith, other)) within
         ];
   }
@@ -70,13 +70,13 @@ module _ (two : TwoGraphs) (s : List ℕ) (k n : ℕ) (met : ModuleSet) (next : 
       small : (j : ℕ) → (ltb j 64 && eqb j (get_or s k 0)) ≡ eqb j (get_or s k 0)
       small j = grind (arith, nat_tests)
 
-      at_place : WalkedAt two s k
-      at_place = record {
-        listed = inside;
-        onward = record { exactly = λ j. on.exactly j ∙ met_is j; closed = on.closed };
+      walked_here : WalkedAt two s k
+      walked_here = record {
+        names_module = inside;
+        goes_on = record { exactly = λ j. on.exactly j ∙ met_is j; closed = on.closed };
       }
 
   pub walked_on : Walked two s → GoesOn two (get_or s k 0) (member met)
   walked_on walked =
-      let on = (walked k here).onward in
+      let on = (walked k here).goes_on in
       record { exactly = λ j. on.exactly j ∙ sym (met_is j); closed = on.closed }

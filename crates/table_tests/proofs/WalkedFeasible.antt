@@ -42,13 +42,13 @@ module _ (codes s : List ℕ) (two : TwoGraphs) (right : Shows (table_of (length
       none_itself : (n k : ℕ) → m ≤ k + n → k < m → either_edge two (at k) (at k) ≡ true → ⊥
       none_itself zero k end h own = absurd (omega arith)
       none_itself (suc n) k end h own =
-          let (l, after, inside, is) = place_standing s (k + 1) (at k) (sym ((walked k h).onward.exactly (at k)) ∙ own) in
+          let (l, after, inside, is) = place_standing s (k + 1) (at k) (sym ((walked k h).goes_on.exactly (at k)) ∙ own) in
           none_itself n l (omega arith) inside (rw is own)
 
       none_twice : (k l : ℕ) → k < l → l < m → at k ≡ at l → ⊥
       none_twice k l h g same =
           none_itself m k (omega arith) (omega arith)
-          ((walked k (omega arith)).onward.exactly (at k) ∙ standing_at s (k + 1) l (at k) (omega arith) g (sym same))
+          ((walked k (omega arith)).goes_on.exactly (at k) ∙ standing_at s (k + 1) l (at k) (omega arith) g (sym same))
 
       once : (k l : ℕ) → k < m → l < m → at k ≡ at l → k ≡ l
       once k l h g same =
@@ -59,7 +59,7 @@ module _ (codes s : List ℕ) (two : TwoGraphs) (right : Shows (table_of (length
           ]
 
       different : Different m at
-      different = record { below = λ k h. (walked k h).listed; once = once }
+      different = record { below = λ k h. (walked k h).names_module; once = once }
 
       stands : (i : ℕ) → i < m → (k : ℕ) × (k < m) × (at k ≡ i)
       stands i h = all_found m at different i h
@@ -67,7 +67,7 @@ module _ (codes s : List ℕ) (two : TwoGraphs) (right : Shows (table_of (length
       -- what a module has an edge to stands after it
       forward : (k l : ℕ) → k < m → l < m → 0 < c (at k) (at l) → k < l
       forward k l h g some =
-          let ahead = sym ((walked k h).onward.exactly (at l)) ∙ joining (at k) (at l) some in
+          let ahead = sym ((walked k h).goes_on.exactly (at l)) ∙ joining (at k) (at l) some in
           let (n, after, inside, is) = place_standing s (k + 1) (at l) ahead in
           let same = once n l inside g is in
           omega arith
@@ -76,7 +76,7 @@ module _ (codes s : List ℕ) (two : TwoGraphs) (right : Shows (table_of (length
       ahead_joined : (k l : ℕ) → k < l → l < m → 0 < c (at k) (at l)
       ahead_joined k l h g =
           related (at k) (at l)
-          ((walked k (omega arith)).onward.exactly (at l) ∙ standing_at s (k + 1) l (at l) (omega arith) g refl)
+          ((walked k (omega arith)).goes_on.exactly (at l) ∙ standing_at s (k + 1) l (at l) (omega arith) g refl)
 
       no_second : (i j : ℕ) → 0 < c i j → c j i ≡ 0
       no_second i j some =
@@ -114,11 +114,11 @@ module _ (codes s : List ℕ) (two : TwoGraphs) (right : Shows (table_of (length
           let most = small i j in
           elim (cases_eq g 1) [
             | inl one ↦
-                closed_as 1 two.right right (λ n h. (walked n h).onward.closed.0) (omega arith) i j k (a ∙ one) (b ∙ one)
+                closed_as 1 two.right right (λ n h. (walked n h).goes_on.closed.0) (omega arith) i j k (a ∙ one) (b ∙ one)
                 ∙ sym one
             | inr other ↦
                 let is : g ≡ 2 = omega (arith, other) in
-                closed_as 2 two.above above (λ n h. (walked n h).onward.closed.1) (omega arith) i j k (a ∙ is) (b ∙ is)
+                closed_as 2 two.above above (λ n h. (walked n h).goes_on.closed.1) (omega arith) i j k (a ∙ is) (b ∙ is)
                 ∙ sym is
           ]
 
@@ -135,7 +135,7 @@ module _ (codes s : List ℕ) (two : TwoGraphs) (right : Shows (table_of (length
           oneway = no_second;
           closed = closed;
         };
-        fits = record { long = refl; modules = λ k h. (walked k h).listed; once = once; forward = forward };
+        fits = record { long = refl; modules = λ k h. (walked k h).names_module; once = once; forward = forward };
       }
 
   -- the other way round
@@ -161,8 +161,8 @@ module _ (codes s : List ℕ) (two : TwoGraphs) (right : Shows (table_of (length
 
     pub feasible_walked : Walked two s
     feasible_walked = λ k h. record {
-      listed = f.fits.modules k h;
-      onward = record {
+      names_module = f.fits.modules k h;
+      goes_on = record {
         exactly = λ j.
             same_from_decides (either_edge two (at k) j) (stands_from s (k + 1) j) (ahead k j h, behind k j h) (λ e. e, λ e. e);
         closed = (closed_at 1 two.right right (omega arith) (at k), closed_at 2 two.above above (omega arith) (at k));

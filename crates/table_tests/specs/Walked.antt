@@ -28,8 +28,8 @@ pub record GoesOn (two : TwoGraphs) (i : ℕ) (ahead : ℕ → Bool) : Type 0 wh
 
 -- the number at a place is one of as many modules as there are places, and goes on to exactly those that stand later
 pub record WalkedAt (two : TwoGraphs) (s : List ℕ) (k : ℕ) : Type 0 where
-  pub listed : slice_index s k < length s
-  pub onward : GoesOn two (slice_index s k) (stands_from s (k + 1))
+  pub names_module : slice_index s k < length s
+  pub goes_on : GoesOn two (slice_index s k) (stands_from s (k + 1))
 
 -- so at each place
 abbrev pub Walked : TwoGraphs → List ℕ → Type 0

@@ -8,7 +8,7 @@ use graphs::Graph;
 use module_set::ModuleSet;
 use plans::Direction;
 
-// The horizontal and the vertical graph of a table.
+/// The horizontal and the vertical graph of a table.
 #[derive(Clone, Copy)]
 pub struct TwoGraphs {
     pub right: Graph,

@@ -10,8 +10,8 @@ use crate::rows::first_in_rows;
 use crate::table::Table;
 use plans::LoadRefusal;
 
-// The first refusal of the codes of m modules that does not ask for closure: at most `limit` modules, one code
-// for each ordered pair of them, none above the greatest, none on the diagonal, and one edge for each two modules.
+/// The first refusal of the codes of m modules that does not ask for closure: at most `limit` modules, one code
+/// for each ordered pair of them, none above the greatest, none on the diagonal, and one edge for each two modules.
 pub fn check_codes(limit: usize, greatest: u8, m: usize, codes: &[u8]) -> Result<(), LoadRefusal>
     ensures { result ≡ unless (codes_refusal limit greatest m codes.now) tt }
 {

@@ -10,7 +10,7 @@ use crate::codes::tested_table;
 use crate::order::Sequenced;
 use plans::LoadRefusal;
 
-// The first refusal of a load, or the graphs of what it accepts.
+/// The first refusal of a load, or the graphs of what it accepts.
 pub fn tested_graphs(codes: &[u8], sequence: &[usize]) -> Result<TwoGraphs, LoadRefusal>
     ensures tested { Tested codes.now sequence.now result }
     ensures whole { TestedWhole codes.now sequence.now result }

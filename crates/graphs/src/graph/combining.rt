@@ -6,14 +6,14 @@ use super::Graph;
 use module_set::ModuleSet;
 
 impl Graph {
-    // The edges that both graphs have.
+    /// The edges that both graphs have.
     pub fn intersection(&self, other: &Graph) -> Graph
         ensures { (i j : ℕ) → edge result i j ≡ (edge self.now i j && edge other.now i j) }
     {
         self.combined(other, |own, theirs| own.intersection(theirs))
     }
 
-    // The edges that the other graph lacks.
+    /// The edges that the other graph lacks.
     pub fn minus(&self, other: &Graph) -> Graph
         ensures { (i j : ℕ) → edge result i j ≡ (edge self.now i j && not (edge other.now i j)) }
     {

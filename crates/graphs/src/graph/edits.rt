@@ -7,7 +7,7 @@ use super::Graph;
 use module_set::ModuleSet;
 
 impl Graph {
-    // Gives i other successors, and changes nothing where i is over 63.
+    /// Gives i other successors, and changes nothing where i is over 63.
     pub fn set_successors(&mut self, i: usize, to: ModuleSet)
         ensures { (k j : ℕ) → edge self.new k j ≡ (if nat_lt k 64 && k == i then member to j else edge self.old k j) }
     {
@@ -16,14 +16,14 @@ impl Graph {
         }
     }
 
-    // Adds every edge from one of the first set to one of the second.
+    /// Adds every edge from one of the first set to one of the second.
     pub fn connect(&mut self, from: ModuleSet, to: ModuleSet)
         ensures { (i j : ℕ) → edge self.new i j ≡ (edge self.old i j || (member from i && member to j)) }
     {
         self.change_rows(from, |row| row.union(to));
     }
 
-    // Takes out every edge from one of the first set to one of the second.
+    /// Takes out every edge from one of the first set to one of the second.
     pub fn disconnect(&mut self, from: ModuleSet, to: ModuleSet)
         ensures { (i j : ℕ) → edge self.new i j ≡ (edge self.old i j && not (member from i && member to j)) }
     {
@@ -41,7 +41,7 @@ impl Graph {
         }
     }
 
-    // Lets a and b take each other's place, and changes nothing where either is over 63.
+    /// Lets a and b take each other's place, and changes nothing where either is over 63.
     pub fn swap(&mut self, a: usize, b: usize)
         ensures { (i j : ℕ) → edge self.new i j ≡ edge self.old (swapped a b i) (swapped a b j) }
     {

@@ -1,7 +1,7 @@
 // Making a graph and reading its edges.
 ghost use Rattle.std.specs.Prelude.{◌≡◌, ℕ, ◌<◌, false, slice_index};
 ghost use Rattle.graphs.specs.Edges.{edge, two_steps};
-ghost use Rattle.graphs.specs.Tallies.{edges_to};
+ghost use Rattle.graphs.specs.Tallies.{edges_into};
 ghost use Rattle.module_set.specs.Members.{member};
 
 use super::Graph;
@@ -9,7 +9,7 @@ use crate::tally::Tally;
 use module_set::ModuleSet;
 
 impl Graph {
-    // The graph with no edges.
+    /// The graph with no edges.
     pub fn empty() -> Graph
         ensures { (i j : ℕ) → edge result i j ≡ false }
     {
@@ -18,14 +18,14 @@ impl Graph {
         }
     }
 
-    // Whether there is an edge from i to j.
+    /// Whether there is an edge from i to j.
     pub fn has_edge(&self, i: usize, j: usize) -> bool
         ensures { result ≡ edge self.now i j }
     {
         self.successors(i).contains(j)
     }
 
-    // The modules to which i has an edge.
+    /// The modules to which i has an edge.
     #[tactic(auto, using(crate::proofs::Rows::edge_inside, crate::proofs::Rows::edge_outside))]
     pub fn successors(&self, i: usize) -> ModuleSet
         ensures { (j : ℕ) → member result j ≡ edge self.now i j }
@@ -37,7 +37,7 @@ impl Graph {
         }
     }
 
-    // The modules that have an edge to j.
+    /// The modules that have an edge to j.
     pub fn predecessors(&self, j: usize) -> ModuleSet
         ensures { (i : ℕ) → member result i ≡ edge self.now i j }
     {
@@ -50,9 +50,9 @@ impl Graph {
         found
     }
 
-    // How many modules have an edge to each of 0 to 63.
+    /// How many modules have an edge to each of 0 to 63.
     pub fn predecessor_counts(&self) -> [usize; 64]
-        ensures { (j : ℕ) → j < 64 → slice_index result j ≡ edges_to self.now j }
+        ensures { (j : ℕ) → j < 64 → slice_index result j ≡ edges_into self.now j }
     {
         let mut tally = Tally::new();
         for row in &self.rows {
@@ -65,7 +65,7 @@ impl Graph {
         counts
     }
 
-    // The modules to which a successor of i has an edge.
+    /// The modules to which a successor of i has an edge.
     pub fn two_steps(&self, i: usize) -> ModuleSet
         ensures { (k : ℕ) → member result k ≡ two_steps self.now i k }
     {

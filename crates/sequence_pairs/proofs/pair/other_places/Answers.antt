@@ -5,7 +5,7 @@ use Rattle.sequence_pairs.proofs.pair.other_places.Goals as goal
 
 pub overflow_add-place : goal.overflow_add-place
 overflow_add-place c =
-    let x = c.args.graphs.now in
+    let x = c.args.taken.now in
     let j = c.loop-j.j in
     omega (
       arith,
@@ -17,10 +17,10 @@ overflow_add-place c =
 
 pub loop-j-preserved : goal.loop-j-preserved
 loop-j-preserved c =
-    adding_more c.args.graphs.now c.loop-j.j c.loop-j.place-items c.successors.result _ c.loop-j.invariant c.loop-j-test.true
+    adding_more c.args.taken.now c.loop-j.j c.loop-j.place-items c.successors.result _ c.loop-j.invariant c.loop-j-test.true
     c.successors.ensures (ap (λ n. get_or c.loop-j.place-items c.loop-j.j 0 + n) c.len.ensures)
 
 pub returns : goal.returns
 returns c = λ j h.
-    let few = c.args.graphs.now.few in
-    c.loop-j.invariant.done j (omega arith) ∙ other_counted c.args.graphs.now j
+    let few = c.args.taken.now.few in
+    c.loop-j.invariant.done j (omega arith) ∙ other_counted c.args.taken.now j

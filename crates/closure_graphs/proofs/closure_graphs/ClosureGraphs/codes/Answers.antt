@@ -2,9 +2,10 @@
 use Rattle.std.proofs.Common.{◌+◌, ◌≡◌, ◌*◌, subst, ◌∙◌, arith}
 use Rattle.std.proofs.Math.ListN.{length-set}
 use Rattle.std.proofs.lemmas.Nat.{mul-le}
-use Rattle.plans.proofs.TableLists.{same_table}
-use Rattle.plans.specs.Tables.{table_in}
-use Rattle.closure_graphs.proofs.CodeRows.{Written, cell_inside, written_more, written_all}
+use Rattle.plans.proofs.TableLists.{codes_length, same_table}
+use Rattle.plans.specs.Tables.{table_in, codes_of}
+use Rattle.closure_graphs.proofs.CodeRows.{cell_inside, code_more}
+use Rattle.closure_graphs.proofs.Fronts.{Begins, begins_whole}
 use Rattle.closure_graphs.specs.Meaning.{graphs_mean}
 use Rattle.closure_graphs.specs.Settled.{plan_feasible}
 use Rattle.closure_graphs.proofs.closure_graphs.ClosureGraphs.codes.Goals as goal
@@ -19,7 +20,7 @@ loop-j-preserved c =
     record {
       long = length-set c.loop-j.codes (i * x.size + j) c.code.result ∙ c.loop-j.invariant.long;
       written =
-          written_more x.size (table_in (graphs_mean x)) i j c.code.result c.loop-j.codes (omega arith) (omega arith)
+          code_more x.size (table_in (graphs_mean x)) i j c.code.result c.loop-j.codes (omega arith) (omega arith)
           (omega (arith, inside, all, c.loop-j.invariant.long)) c.loop-j.invariant.written c.code.ensures;
     }
 
@@ -30,6 +31,7 @@ returns c =
     let f = plan_feasible x.size x.graphs x.sequence x.few x.long x.feasible in
     let all = mul-le x.size x.size 64 64 x.few x.few in
     let end : c.loop-i.i ≡ x.size = omega arith in
-    written_all x.size (table_in p) c.loop-i.codes (omega (arith, all, c.loop-i.invariant.long))
-    (subst (λ n. Written x.size (table_in p) (n * x.size) c.loop-i.codes) end c.loop-i.invariant.written)
+    begins_whole (codes_of x.size (table_in p)) c.loop-i.codes (x.size * x.size) (codes_length x.size (table_in p))
+    (omega (arith, all, c.loop-i.invariant.long))
+    (subst (λ n. Begins (n * x.size) (codes_of x.size (table_in p)) c.loop-i.codes) end c.loop-i.invariant.written)
     ∙ same_table x.size p.codes f.full

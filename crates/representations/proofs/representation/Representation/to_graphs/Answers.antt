@@ -1,10 +1,11 @@
 -- Row by row and place by place, the graphs and the sequence of what is meant, which is feasible.
 use Rattle.std.proofs.Common.{◌≡◌, ℕ, ◌+◌, ◌<◌, ◌≤◌, length, sym, ap, ◌∙◌, subst, arith}
 use Rattle.std.proofs.Math.ListN.{length-set}
+use Rattle.closure_graphs.proofs.Fronts.{begins_more}
 use Rattle.plans.specs.Directions.{code_along, code_told}
 use Rattle.plans.specs.Tables.{table_in}
 use Rattle.table_tests.proofs.GraphRows.{row_put}
-use Rattle.representations.proofs.GraphsRead.{RowRead, row_found, row_passed, row_read, read_stands, places_more, module_there}
+use Rattle.representations.proofs.GraphsRead.{RowRead, row_found, row_passed, row_read, read_stands, module_there}
 use Rattle.representations.proofs.representation.Representation.to_graphs.Goals as goal
 use Rattle.representations.proofs.representation.Representation.to_graphs.Goals.{in-Some-Right, in-Some-Above, in-None}
 
@@ -76,8 +77,8 @@ loop-place-preserved g c =
     record {
       long = length-set c.loop-place.sequence place c.unwrap.result ∙ c.loop-place.invariant.long;
       same =
-          places_more p.sequence c.loop-place.sequence place c.unwrap.result
-          (omega (arith, c.modules-size.ensures, f.table.few)) c.loop-place.invariant.same
+          begins_more p.sequence c.loop-place.sequence place c.unwrap.result
+          (omega (arith, c.modules-size.ensures, f.table.few, c.loop-place.invariant.long)) c.loop-place.invariant.same
           (module_there p place c.unwrap.result c.module_at.result here c.module_at.ensures c.unwrap.ensures);
     }
 

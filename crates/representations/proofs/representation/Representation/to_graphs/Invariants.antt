@@ -1,5 +1,6 @@
 -- The rows below the counter are read, in a row the modules below the counter, and the first places of the sequence.
 use Rattle.std.proofs.Common.{◌≡◌, ℕ, ◌<◌, length, get_or}
+use Rattle.closure_graphs.proofs.Fronts.{Begins}
 use Rattle.plans.specs.Tables.{table_in}
 use Rattle.table_tests.proofs.GraphRows.{Built}
 use Rattle.representations.proofs.GraphsRead.{RowRead}
@@ -18,5 +19,5 @@ invariant-loop-j g l =
 abbrev pub invariant-loop-place : goal.invariant-loop-place
 invariant-loop-place g l = record {
   long : length l.sequence ≡ 64;
-  same : (n : ℕ) → n < l.place → get_or l.sequence n 0 ≡ get_or (g.Self.Representation.means l.self).sequence n 0;
+  same : Begins l.place (g.Self.Representation.means l.self).sequence l.sequence;
 }

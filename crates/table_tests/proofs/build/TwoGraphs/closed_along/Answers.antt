@@ -22,7 +22,7 @@ returns-then-module-sequence c =
     λ walked.
     elim c.then-module-sequence.branch [
       | then-module-sequence-via-then-module-sequence w ↦
-          let inside = (walked k here).listed in omega (arith, w.if-module-sequence.true)
+          let inside = (walked k here).names_module in omega (arith, w.if-module-sequence.true)
       | then-module-sequence-via-else-module-sequence+then-not-goes_on w ↦
           let on = walked_on two s k c.loop-place.place c.loop-place.met next here c.loop-place.invariant walked in
           true≢false (sym (w.goes_on.ensures.1 on) ∙ w.if-not-goes_on.true)
