@@ -5,14 +5,15 @@ use plans::{LoadRefusal, PlanRefusal, Refusal};
 
 // The words written, at the start of a list; what has no room there is not written.
 #[derive(Drop)]
-pub(crate) struct Answers<'a> {
+pub(crate) struct AnswerWords<'a> {
     words: &'a mut [u64],
     count: usize,
 }
 
-impl<'a> Answers<'a> {
-    pub(crate) fn new(words: &'a mut [u64]) -> Answers<'a> {
-        Answers { words, count: 0 }
+impl<'a> AnswerWords<'a> {
+    // No words, to be written at the start of a list.
+    pub(crate) fn new(words: &'a mut [u64]) -> AnswerWords<'a> {
+        AnswerWords { words, count: 0 }
     }
 
     // How many words are written.
@@ -20,6 +21,7 @@ impl<'a> Answers<'a> {
         self.count
     }
 
+    // Writes a word, where there is room for it.
     pub(crate) fn put(&mut self, word: u64) {
         if self.count < self.words.len() {
             self.words[self.count] = word;
@@ -117,6 +119,7 @@ impl PackingTold {
     }
 }
 
+// The module that a packing's refusal tells, 0 where it tells none.
 fn module_told(refusal: PackRefusal) -> usize {
     match refusal {
         PackRefusal::WrongSide(i) => i,

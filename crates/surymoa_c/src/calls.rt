@@ -9,7 +9,7 @@ use plans::Change;
 
 // A call of a plan. A packing tells how many places the result list has.
 #[derive(Clone, Copy)]
-pub(crate) enum Call<'a> {
+pub(crate) enum ScriptCall<'a> {
     // codes, and the modules of the sequence
     Load(&'a [u8], &'a [u8]),
     Change(Change),
@@ -29,41 +29,41 @@ pub(crate) enum Call<'a> {
 pub(crate) struct Calls<'a>(pub Bytes<'a>);
 
 impl<'a> Iterator for Calls<'a> {
-    type Item = Call<'a>;
+    type Item = ScriptCall<'a>;
 
     ghost remaining = { λ s. at_most (length s.0.0.now) };
 
-    fn next(&mut self) -> Option<Call<'a>> {
+    fn next(&mut self) -> Option<ScriptCall<'a>> {
         read_call(&mut self.0)
     }
 }
 
 // The next call; none at the end, and where the bytes tell none.
-pub(crate) fn read_call<'a>(bytes: &mut Bytes<'a>) -> Option<Call<'a>>
+pub(crate) fn read_call<'a>(bytes: &mut Bytes<'a>) -> Option<ScriptCall<'a>>
     ensures { is_some result ≡ true → length bytes.new.0.now < length bytes.old.0.now }
 {
     let word = bytes.byte()?;
     match word {
         0 => read_load(bytes),
-        1..=4 => Some(Call::Change(read_change(bytes, word)?)),
-        5 => Some(Call::Keep),
-        6 => Some(Call::Undo),
+        1..=4 => Some(ScriptCall::Change(read_change(bytes, word)?)),
+        5 => Some(ScriptCall::Keep),
+        6 => Some(ScriptCall::Undo),
         7 => read_all_sides(bytes),
-        8 => Some(Call::Pack(bytes.count()?)),
+        8 => Some(ScriptCall::Pack(bytes.count()?)),
         9 => read_pinned(bytes),
-        10 => Some(Call::PackWithRotation(bytes.count()?, bytes.count()?)),
-        11 => Some(Call::Show),
+        10 => Some(ScriptCall::PackWithRotation(bytes.count()?, bytes.count()?)),
+        11 => Some(ScriptCall::Show),
         _ => None,
     }
 }
 
 // How many modules and codes there are, the codes, and the sequence.
-fn read_load<'a>(bytes: &mut Bytes<'a>) -> Option<Call<'a>>
+fn read_load<'a>(bytes: &mut Bytes<'a>) -> Option<ScriptCall<'a>>
     ensures { length bytes.new.0.now ≤ length bytes.old.0.now }
 {
     let size = bytes.count()?;
     let codes = bytes.long_count()?;
-    Some(Call::Load(bytes.several(codes)?, bytes.several(size)?))
+    Some(ScriptCall::Load(bytes.several(codes)?, bytes.several(size)?))
 }
 
 // A change by its word: the module or the two modules that it names.
@@ -84,15 +84,15 @@ pub(crate) fn read_change(bytes: &mut Bytes<'_>, word: u8) -> Option<Change>
 }
 
 // How many sides there are, and these.
-fn read_all_sides<'a>(bytes: &mut Bytes<'a>) -> Option<Call<'a>>
+fn read_all_sides<'a>(bytes: &mut Bytes<'a>) -> Option<ScriptCall<'a>>
     ensures { length bytes.new.0.now ≤ length bytes.old.0.now }
 {
     let count = bytes.byte()?;
-    Some(Call::Sides(bytes.several(8 * usize::from(count))?))
+    Some(ScriptCall::Sides(bytes.several(8 * usize::from(count))?))
 }
 
 // The places of the result list, the module that is pinned, and where.
-fn read_pinned<'a>(bytes: &mut Bytes<'a>) -> Option<Call<'a>>
+fn read_pinned<'a>(bytes: &mut Bytes<'a>) -> Option<ScriptCall<'a>>
     ensures { length bytes.new.0.now ≤ length bytes.old.0.now }
 {
     let places = bytes.count()?;
@@ -101,5 +101,5 @@ fn read_pinned<'a>(bytes: &mut Bytes<'a>) -> Option<Call<'a>>
         across: bytes.length()?,
         up: bytes.length()?,
     };
-    Some(Call::PackPinned(places, pin))
+    Some(ScriptCall::PackPinned(places, pin))
 }

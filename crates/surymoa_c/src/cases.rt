@@ -1,20 +1,30 @@
 // The cases that rounds go over: floorplans with sides, and with changes that each of them accepts.
 ghost use Rattle.std.specs.Prelude.{◌≤◌, ◌≡◌, length};
+ghost use Rattle.surymoa_c.specs.declared.cases.TheConstants.{MODULES};
 
 use crate::bytes::Bytes;
 use crate::calls::read_change;
 use lengths::{Plain, Sides};
 use plans::Change;
 
-// A floorplan as a load takes it, the sides of its modules, and some changes. The lists have room for 64 modules.
+// The most modules that a floorplan has.
+pub(crate) const MODULES: usize = 64;
+
+// How many cases a task has.
+pub(crate) const CASES: usize = 64;
+
+// How many changes a case has.
+const CHANGES: usize = 16;
+
+// A floorplan as a load takes it, the sides of its modules, and some changes. The lists have room for the most modules.
 #[derive(Clone, Copy)]
 pub(crate) struct Case<'a> {
     size: usize,
     codes: &'a [u8],
-    sequence: [usize; 64],
-    sides: [Sides<Plain>; 64],
-    changes: [Change; 16],
-    ghost few: { size ≤ 64 },
+    sequence: [usize; MODULES],
+    sides: [Sides<Plain>; MODULES],
+    changes: [Change; CHANGES],
+    ghost few: { size ≤ MODULES },
 }
 
 impl<'a> Case<'a> {
@@ -23,15 +33,15 @@ impl<'a> Case<'a> {
         Case {
             size: 0,
             codes: &[],
-            sequence: [0; 64],
-            sides: [no_sides(); 64],
-            changes: [Change::Rotate(0); 16],
+            sequence: [0; MODULES],
+            sides: [no_sides(); MODULES],
+            changes: [Change::Rotate(0); CHANGES],
         }
     }
 
     // The next case of so many modules: codes, sequence, width and height of each module, changes.
     fn read(bytes: &mut Bytes<'a>, size: usize) -> Option<Case<'a>> {
-        if size > 64 {
+        if size > MODULES {
             return None;
         }
         Some(Case {
@@ -43,27 +53,30 @@ impl<'a> Case<'a> {
         })
     }
 
+    // The code of each two modules, row by row.
     pub(crate) fn codes(&self) -> &'a [u8] {
         self.codes
     }
 
+    // The modules in their order.
     pub(crate) fn sequence(&self) -> &[usize] {
         &self.sequence[..self.size]
     }
 
+    // Width and height of each module.
     pub(crate) fn sides(&self) -> &[Sides<Plain>] {
         &self.sides[..self.size]
     }
 
     // The change of a turn.
     pub(crate) fn change(&self, turn: usize) -> Change {
-        self.changes[turn % 16]
+        self.changes[turn % CHANGES]
     }
 }
 
 // The modules of a sequence.
-fn read_sequence(bytes: &mut Bytes<'_>, size: usize) -> Option<[usize; 64]> {
-    let mut sequence = [0; 64];
+fn read_sequence(bytes: &mut Bytes<'_>, size: usize) -> Option<[usize; MODULES]> {
+    let mut sequence = [0; MODULES];
     for module in sequence.iter_mut().take(size) {
         *module = bytes.count()?;
     }
@@ -71,14 +84,15 @@ fn read_sequence(bytes: &mut Bytes<'_>, size: usize) -> Option<[usize; 64]> {
 }
 
 // Width and height of each module.
-fn read_sides(bytes: &mut Bytes<'_>, size: usize) -> Option<[Sides<Plain>; 64]> {
-    let mut all = [no_sides(); 64];
+fn read_sides(bytes: &mut Bytes<'_>, size: usize) -> Option<[Sides<Plain>; MODULES]> {
+    let mut all = [no_sides(); MODULES];
     for sides in all.iter_mut().take(size) {
         *sides = bytes.sides()?;
     }
     Some(all)
 }
 
+// What stands where no sides are told yet.
 pub(crate) fn no_sides() -> Sides<Plain> {
     Sides {
         width: Plain(0),
@@ -87,8 +101,8 @@ pub(crate) fn no_sides() -> Sides<Plain> {
 }
 
 // All changes of a case.
-fn read_changes(bytes: &mut Bytes<'_>) -> Option<[Change; 16]> {
-    let mut changes = [Change::Rotate(0); 16];
+fn read_changes(bytes: &mut Bytes<'_>) -> Option<[Change; CHANGES]> {
+    let mut changes = [Change::Rotate(0); CHANGES];
     for change in changes.iter_mut() {
         let word = bytes.byte()?;
         *change = read_change(bytes, word)?;
@@ -99,7 +113,7 @@ fn read_changes(bytes: &mut Bytes<'_>) -> Option<[Change; 16]> {
 // The cases of a task.
 #[derive(Clone, Copy)]
 pub(crate) struct Cases<'a> {
-    pub(crate) all: [Case<'a>; 64],
+    pub(crate) all: [Case<'a>; CASES],
 }
 
 impl<'a> Cases<'a> {
@@ -107,8 +121,8 @@ impl<'a> Cases<'a> {
     pub(crate) fn read(task: &'a [u8]) -> Option<Cases<'a>> {
         let mut bytes = Bytes(task);
         let size = bytes.count()?;
-        let mut all = [Case::empty(); 64];
-        for place in 0..64 {
+        let mut all = [Case::empty(); CASES];
+        for place in 0..CASES {
             all[place] = Case::read(&mut bytes, size)?;
         }
         Some(Cases { all })

@@ -9,8 +9,8 @@ mod rounds;
 mod script;
 mod trial;
 
-use answers::Answers;
-use cases::Cases;
+use answers::AnswerWords;
+use cases::{CASES, Cases};
 use closure_graphs::ClosureGraphs;
 use planner::Plan;
 use representations::Transposed;
@@ -29,11 +29,11 @@ pub extern "C" fn surymoa_rounds(kind: u8, round: u8, turns: usize, task: &[u8])
     };
     match kind {
         0 => {
-            let mut graphs: [ClosureGraphs; 64] = array::from_fn(|_| ClosureGraphs::new());
+            let mut graphs: [ClosureGraphs; CASES] = array::from_fn(|_| ClosureGraphs::new());
             bare_rounds(round, &mut graphs, &cases.all, turns)
         }
         1 => {
-            let mut pairs: [SequencePair; 64] = array::from_fn(|_| SequencePair::new());
+            let mut pairs: [SequencePair; CASES] = array::from_fn(|_| SequencePair::new());
             bare_rounds(round, &mut pairs, &cases.all, turns)
         }
         _ => 0,
@@ -48,13 +48,13 @@ pub extern "C" fn surymoa_trials(kind: u8, turns: usize, task: &[u8]) -> u64 {
     };
     match kind {
         0 => {
-            let mut plans: [Plan<ClosureGraphs>; 64] = array::from_fn(|_| Plan::new(
+            let mut plans: [Plan<ClosureGraphs>; CASES] = array::from_fn(|_| Plan::new(
                 ClosureGraphs::new(),
             ));
             trial_rounds(&mut plans, &cases.all, turns)
         }
         1 => {
-            let mut plans: [Plan<SequencePair>; 64] = array::from_fn(|_| Plan::new(
+            let mut plans: [Plan<SequencePair>; CASES] = array::from_fn(|_| Plan::new(
                 SequencePair::new(),
             ));
             trial_rounds(&mut plans, &cases.all, turns)
@@ -67,7 +67,7 @@ pub extern "C" fn surymoa_trials(kind: u8, turns: usize, task: &[u8]) -> u64 {
 /// graphs, kind 2, and writes the answers at the start of the words. Answers how many words are written.
 #[unsafe(no_mangle)]
 pub extern "C" fn surymoa_answers(kind: u8, script: &[u8], words: &mut [u64]) -> usize {
-    let mut answers = Answers::new(words);
+    let mut answers = AnswerWords::new(words);
     match kind {
         0 => run_script(ClosureGraphs::new(), script, &mut answers),
         1 => run_script(SequencePair::new(), script, &mut answers),

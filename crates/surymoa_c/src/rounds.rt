@@ -1,5 +1,5 @@
 // Rounds over the cases of a task in turn, each over the representation or the plan that has its case.
-use crate::cases::Case;
+use crate::cases::{Case, MODULES};
 use lengths::Plain;
 use module_set::ModuleSet;
 use packing::{Job, Placed, unplaced};
@@ -19,6 +19,7 @@ pub(crate) enum Round {
 }
 
 impl Round {
+    // The round of a number; none where no round has it.
     pub(crate) fn of(number: u8) -> Option<Round> {
         match number {
             0 => Some(Round::Change),
@@ -82,7 +83,7 @@ pub(crate) fn bare_rounds<R: Representation>(
     for (r, case) in all.iter_mut().zip(cases) {
         let _ = is_loaded(r, case);
     }
-    let mut results = [unplaced(); 64];
+    let mut results = [unplaced(); MODULES];
     let mut sum = 0u64;
     for turn in 0..turns {
         for (r, case) in all.iter_mut().zip(cases) {
@@ -106,7 +107,7 @@ pub(crate) fn trial_rounds<R: Representation>(
     for (plan, case) in all.iter_mut().zip(cases) {
         let _ = plan.load(case.codes(), case.sequence());
     }
-    let mut results = [unplaced(); 64];
+    let mut results = [unplaced(); MODULES];
     let mut sum = 0u64;
     for turn in 0..turns {
         for (plan, case) in all.iter_mut().zip(cases) {

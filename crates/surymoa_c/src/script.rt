@@ -1,10 +1,11 @@
 // Running a script at a plan, call by call.
 ghost use Rattle.std.specs.Prelude.{◌≤◌};
+ghost use Rattle.surymoa_c.specs.declared.script.TheConstants.{ROOM};
 
-use crate::answers::{Answers, PackingTold};
+use crate::answers::{AnswerWords, PackingTold};
 use crate::bytes::Bytes;
-use crate::calls::{Call, Calls};
-use crate::cases::no_sides;
+use crate::calls::{Calls, ScriptCall};
+use crate::cases::{MODULES, no_sides};
 use crate::trial::Tried;
 use lengths::{Plain, Sides};
 use packing::{Placed, unplaced};
@@ -12,17 +13,21 @@ use planner::Plan;
 use representations::Representation;
 
 // One more than there can be modules, so that lists can be too long and questions be asked of no module.
-const ROOM: usize = 65;
+const ROOM: usize = MODULES + 1;
+
+// The most modules that one byte can count.
+const LONGEST_SEQUENCE: usize = 255;
 
 // The sides that packings are given.
 #[derive(Drop)]
 struct SideList {
     sides: [Sides<Plain>; ROOM],
     count: usize,
-    ghost within: { count ≤ 65 },
+    ghost within: { count ≤ ROOM },
 }
 
 impl SideList {
+    // The sides of no modules.
     fn empty() -> SideList {
         SideList {
             sides: [no_sides(); ROOM],
@@ -43,6 +48,7 @@ impl SideList {
         SideList { sides, count: ROOM }
     }
 
+    // The sides that are told.
     fn all(&self) -> &[Sides<Plain>] {
         &self.sides[..self.count]
     }
@@ -59,31 +65,31 @@ fn perform<R: Representation>(
     tried: &mut Tried<R>,
     sides: &mut SideList,
     results: &mut [Placed<Plain>],
-    call: Call<'_>,
-    answers: &mut Answers<'_>,
+    call: ScriptCall<'_>,
+    answers: &mut AnswerWords<'_>,
 ) {
     match call {
-        Call::Load(codes, sequence) => perform_load(tried, codes, sequence, answers),
-        Call::Change(change) => answers.put_answer(tried.change(change)),
-        Call::Keep => answers.put_answer(tried.keep()),
-        Call::Undo => answers.put_answer(tried.undo()),
-        Call::Sides(told) => *sides = SideList::told(told),
-        Call::Pack(places) => {
+        ScriptCall::Load(codes, sequence) => perform_load(tried, codes, sequence, answers),
+        ScriptCall::Change(change) => answers.put_answer(tried.change(change)),
+        ScriptCall::Keep => answers.put_answer(tried.keep()),
+        ScriptCall::Undo => answers.put_answer(tried.undo()),
+        ScriptCall::Sides(told) => *sides = SideList::told(told),
+        ScriptCall::Pack(places) => {
             let results = first_places(results, places);
             let answer = tried.plan.pack(sides.all(), results);
             answers.put_packed(answer.map_err(PackingTold::of_pack), results);
         }
-        Call::PackPinned(places, pin) => {
+        ScriptCall::PackPinned(places, pin) => {
             let results = first_places(results, places);
             let answer = tried.plan.pack_pinned(sides.all(), results, pin);
             answers.put_packed(answer.map_err(PackingTold::of_pinned), results);
         }
-        Call::PackWithRotation(places, module) => {
+        ScriptCall::PackWithRotation(places, module) => {
             let results = first_places(results, places);
             let answer = tried.plan.pack_with_rotation(sides.all(), results, module);
             answers.put_packed(answer.map_err(PackingTold::of_rotation), results);
         }
-        Call::Show => show(&tried.plan, answers),
+        ScriptCall::Show => show(&tried.plan, answers),
     }
 }
 
@@ -92,18 +98,18 @@ fn perform_load<R: Representation>(
     tried: &mut Tried<R>,
     codes: &[u8],
     told: &[u8],
-    answers: &mut Answers<'_>,
+    answers: &mut AnswerWords<'_>,
 ) {
-    let mut sequence = [0; 255];
+    let mut sequence = [0; LONGEST_SEQUENCE];
     for (place, &module) in sequence.iter_mut().zip(told) {
         *place = usize::from(module);
     }
-    let size = told.len().min(255);
+    let size = told.len().min(LONGEST_SEQUENCE);
     answers.put_load(tried.load(codes, &sequence[..size]));
 }
 
 // Asks all questions, of one module and one place more than there can be too.
-fn show<R: Representation>(plan: &Plan<R>, answers: &mut Answers<'_>) {
+fn show<R: Representation>(plan: &Plan<R>, answers: &mut AnswerWords<'_>) {
     answers.put(plan.modules() as u64);
     answers.put(u64::from(plan.is_on_trial()));
     for i in 0..ROOM {
@@ -119,7 +125,7 @@ fn show<R: Representation>(plan: &Plan<R>, answers: &mut Answers<'_>) {
 pub(crate) fn run_script<R: Representation + Drop>(
     representation: R,
     script: &[u8],
-    answers: &mut Answers<'_>,
+    answers: &mut AnswerWords<'_>,
 ) {
     let mut tried = Tried::new(representation);
     let mut sides = SideList::empty();

@@ -24,6 +24,7 @@ pub(crate) struct Tried<R: Representation> {
 }
 
 impl<R: Representation> Tried<R> {
+    // A fresh plan over a representation, with no trial open.
     pub(crate) fn new(representation: R) -> Tried<R> {
         Tried {
             plan: Plan::new(representation),
@@ -31,6 +32,7 @@ impl<R: Representation> Tried<R> {
         }
     }
 
+    // Loads a floorplan, where no trial is open.
     pub(crate) fn load(&mut self, codes: &[u8], sequence: &[usize]) -> Result<(), PlanLoadRefusal> {
         self.plan.load(codes, sequence)
     }
