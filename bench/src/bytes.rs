@@ -1,38 +1,45 @@
 //! Reading the bytes of a task one after another.
 
-use crate::plain::{Change, Sides};
+use crate::plain::{Change, Pin, Sides};
 
+/// What is still to be read.
 pub struct Bytes<'a>(pub &'a [u8]);
 
 impl<'a> Bytes<'a> {
+    /// The next bytes, as many as are asked for.
     pub fn several(&mut self, count: usize) -> Option<&'a [u8]> {
         let (several, rest) = self.0.split_at_checked(count)?;
         self.0 = rest;
         Some(several)
     }
 
+    /// The next byte.
     pub fn byte(&mut self) -> Option<u8> {
         let (&byte, rest) = self.0.split_first()?;
         self.0 = rest;
         Some(byte)
     }
 
+    /// The number of a module, or how many there are of something: one byte.
     pub fn count(&mut self) -> Option<usize> {
         self.byte().map(usize::from)
     }
 
+    /// How many codes there are: two bytes, the lowest first.
     pub fn long_count(&mut self) -> Option<usize> {
         let (&two, rest) = self.0.split_first_chunk()?;
         self.0 = rest;
         Some(u16::from_le_bytes(two).into())
     }
 
+    /// A length: four bytes, the lowest first.
     pub fn length(&mut self) -> Option<u32> {
         let (&four, rest) = self.0.split_first_chunk()?;
         self.0 = rest;
         Some(u32::from_le_bytes(four))
     }
 
+    /// The modules of a sequence, a byte each.
     pub fn sequence(&mut self, count: usize) -> Option<Vec<usize>> {
         Some(
             self.several(count)?
@@ -42,6 +49,7 @@ impl<'a> Bytes<'a> {
         )
     }
 
+    /// Width and height of so many modules.
     pub fn sides(&mut self, count: usize) -> Option<Vec<Sides>> {
         (0..count)
             .map(|_| {
@@ -51,6 +59,15 @@ impl<'a> Bytes<'a> {
                 })
             })
             .collect()
+    }
+
+    /// A module, and where its pin stands.
+    pub fn pin(&mut self) -> Option<Pin> {
+        Some(Pin {
+            module: self.count()?,
+            across: self.length()?,
+            up: self.length()?,
+        })
     }
 
     /// A change as its word and one or two modules.

@@ -1,5 +1,6 @@
 //! Measuring rounds: instructions by callgrind, and times.
 
+use crate::tasks::CASES;
 use crate::{ours, rounds, tasks};
 use std::hint::black_box;
 use std::process::Command;
@@ -19,16 +20,17 @@ pub struct Rounds {
     pub size: usize,
 }
 
-/// The cases of a task, with each of which a turn makes a round.
-const CASES: usize = 64;
-
 /// The turns of a shorter and of a longer run under callgrind.
 const TURNS: [usize; 2] = [1, 9];
+
+/// The turns that a longer timed run has more than a shorter one, times the modules of a case.
+const TIMED_MODULES: usize = 256;
 
 /// How often each run is timed.
 const RUNS: usize = 100;
 
 impl Rounds {
+    /// Makes the rounds of so many turns at one side, and answers what they add up to.
     pub fn run(self, side: Side, turns: usize, task: &[u8]) -> u64 {
         let make = if side == Side::Ours {
             ours::rounds
@@ -44,6 +46,7 @@ impl Rounds {
         (long - short) / (CASES * (TURNS[1] - TURNS[0])) as u64
     }
 
+    /// Instructions of a run of this program that makes the rounds of so many turns.
     fn instructions_of_run(self, side: Side, turns: usize) -> u64 {
         let words = [
             usize::from(side == Side::Plain),
@@ -72,7 +75,7 @@ impl Rounds {
     /// Nanoseconds of one round of each side, from the least of many shorter and of many longer runs, which alternate.
     pub fn times(self) -> [f64; 2] {
         let task = tasks::cases(self.size);
-        let more = 256 / self.size;
+        let more = TIMED_MODULES / self.size;
         let mut least = [[f64::MAX; 2]; 2];
         for _ in 0..RUNS {
             for (least, side) in least.iter_mut().zip([Side::Ours, Side::Plain]) {
@@ -87,6 +90,7 @@ impl Rounds {
     }
 }
 
+/// A time as the system tells it.
 #[repr(C)]
 struct TimeSpec {
     seconds: i64,

@@ -30,6 +30,7 @@ pub fn answers(kind: u8, script: &[u8], room: usize) -> Vec<u64> {
     words
 }
 
+/// Rounds 0 to 3, which are A to D, added up.
 pub fn rounds(kind: u8, round: u8, turns: usize, task: &[u8]) -> u64 {
     let (start, length) = (task.as_ptr(), task.len());
     match round {

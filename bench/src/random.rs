@@ -4,10 +4,12 @@
 pub struct Random(u64);
 
 impl Random {
+    /// The numbers of a seed; equal seeds give equal numbers.
     pub fn new(seed: u64) -> Random {
         Random(seed.wrapping_mul(0x9e37_79b9_7f4a_7c15) | 1)
     }
 
+    /// 64 random bits.
     fn next(&mut self) -> u64 {
         self.0 ^= self.0 >> 12;
         self.0 ^= self.0 << 25;
@@ -20,6 +22,7 @@ impl Random {
         (((self.next() >> 32) * limit as u64) >> 32) as usize
     }
 
+    /// So many modules in a random order.
     pub fn shuffled(&mut self, size: usize) -> Vec<usize> {
         let mut order: Vec<usize> = (0..size).collect();
         for k in (1..size).rev() {

@@ -2,13 +2,13 @@
 
 use crate::bytes::Bytes;
 use crate::plain::{
-    ChangeRefusal, Chip, Floorplan, Graphs, LoadRefusal, PackRefusal, Pair, Pin, Placed, Plan,
-    Sides,
+    ChangeRefusal, Chip, Floorplan, Graphs, LoadRefusal, PackRefusal, Pair, Placed, Plan, Sides,
+    MODULES,
 };
 use std::collections::BTreeMap;
 
 /// One more than there can be modules, so that lists can be too long and questions be asked of no module.
-const ROOM: usize = 65;
+const ROOM: usize = MODULES + 1;
 
 /// A plan under a script, with what its packings are given and what it answered.
 struct Desk<F> {
@@ -44,6 +44,7 @@ pub fn count(script: &[u8], met: &mut BTreeMap<u64, usize>) -> usize {
     }
 }
 
+/// The answers of a script at a fresh plan over a floorplan.
 fn run<F: Floorplan>(script: &[u8]) -> Vec<u64> {
     let mut desk = Desk::<F>::new();
     let mut bytes = Bytes(script);
@@ -52,6 +53,7 @@ fn run<F: Floorplan>(script: &[u8]) -> Vec<u64> {
 }
 
 impl<F: Floorplan> Desk<F> {
+    /// A fresh plan, with no sides and no answers.
     fn new() -> Desk<F> {
         Desk {
             plan: Plan::new(),
@@ -86,43 +88,33 @@ impl<F: Floorplan> Desk<F> {
                 let count = bytes.count()?;
                 self.sides = bytes.sides(count)?;
             }
-            8 => self.pack(bytes, |plan, sides, results, _| {
-                Some(plan.pack(sides, results))
-            })?,
-            9 => self.pack(bytes, |plan, sides, results, bytes| {
-                let pin = Pin {
-                    module: bytes.count()?,
-                    across: bytes.length()?,
-                    up: bytes.length()?,
-                };
-                Some(plan.pack_pinned(sides, results, pin))
-            })?,
-            10 => self.pack(bytes, |plan, sides, results, bytes| {
-                Some(plan.pack_with_rotation(sides, results, bytes.count()?))
-            })?,
+            word @ 8..=10 => self.pack(bytes, word)?,
             11 => self.show(),
             _ => return None,
         }
         Some(())
     }
 
+    /// Writes words after those that are there.
     fn put<const N: usize>(&mut self, words: [u64; N]) {
         self.answers.extend(words);
     }
 
-    /// A packing into so many places of the result list.
-    fn pack(
-        &mut self,
-        bytes: &mut Bytes<'_>,
-        packing: impl Fn(
-            &Plan<F>,
-            &[Sides],
-            &mut [Placed],
-            &mut Bytes<'_>,
-        ) -> Option<Result<Chip, PackRefusal>>,
-    ) -> Option<()> {
+    /// Reads what the packing of a word is given, and makes it into so many places of the result list.
+    fn pack(&mut self, bytes: &mut Bytes<'_>, word: u8) -> Option<()> {
         let places = bytes.count()?.min(ROOM);
-        let answer = packing(&self.plan, &self.sides, &mut self.results[..places], bytes)?;
+        let (sides, results) = (&self.sides, &mut self.results[..places]);
+        let answer = match word {
+            8 => self.plan.pack(sides, results),
+            9 => self.plan.pack_pinned(sides, results, bytes.pin()?),
+            _ => self.plan.pack_with_rotation(sides, results, bytes.count()?),
+        };
+        self.put_packed(answer, places);
+        Some(())
+    }
+
+    /// The answer of a packing and the result list.
+    fn put_packed(&mut self, answer: Result<Chip, PackRefusal>, places: usize) {
         match answer {
             Ok(chip) => self.put([0, 0, 0, chip.width.into(), chip.height.into(), chip.area]),
             Err(refusal) => self.put(refusal.told()),
@@ -131,9 +123,9 @@ impl<F: Floorplan> Desk<F> {
             let placed = self.results[place];
             self.put([placed.left, placed.bottom, placed.right, placed.top].map(u64::from));
         }
-        Some(())
     }
 
+    /// Asks all questions, of one module and one place more than there can be too.
     fn show(&mut self) {
         let floorplan = *self.plan.floorplan();
         self.put([floorplan.modules() as u64, self.plan.is_on_trial().into()]);

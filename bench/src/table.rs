@@ -2,8 +2,10 @@
 
 use crate::measures::{Rounds, Side};
 
+/// The rounds by their numbers.
 const ROUNDS: [&str; 4] = ["A, change and load", "B, packing", "C, trial", "D, load"];
 
+/// The kinds by their numbers.
 const KINDS: [&str; 2] = ["two graphs", "sequence pair"];
 
 /// Prints a table for each size, the greatest first.

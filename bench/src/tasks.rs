@@ -4,5 +4,5 @@ mod cases;
 mod scripts;
 mod wrong_loads;
 
-pub use cases::cases;
+pub use cases::{cases, CASES, CHANGES};
 pub use scripts::script;

@@ -4,13 +4,14 @@ use super::loading::tested_rows;
 use super::pack::{Pin, Placed, Sides};
 use super::refusals::{ChangeRefusal, LoadRefusal};
 use super::rows::{members, two_modules, Rows};
-use super::Floorplan;
+use super::{Floorplan, MODULES};
 
+/// The rows of both graphs, and the packing sequence.
 #[derive(Clone, Copy)]
 pub struct Graphs {
     size: usize,
     rows: Rows,
-    sequence: [u8; 64],
+    sequence: [u8; MODULES],
 }
 
 impl Floorplan for Graphs {
@@ -18,7 +19,7 @@ impl Floorplan for Graphs {
         Graphs {
             size: 0,
             rows: Rows::new(),
-            sequence: [0; 64],
+            sequence: [0; MODULES],
         }
     }
 
@@ -81,7 +82,7 @@ impl Floorplan for Graphs {
         pin: Option<Pin>,
         results: &mut [Placed],
     ) -> bool {
-        let mut free = [(0, 0); 64];
+        let mut free = [(0, 0); MODULES];
         let mut fits = true;
         for &module in &self.sequence[..self.size] {
             let i = usize::from(module);

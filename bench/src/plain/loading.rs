@@ -2,11 +2,12 @@
 
 use super::refusals::LoadRefusal;
 use super::rows::{members, Rows};
+use super::MODULES;
 
 /// The graphs of a table that passes every test, or the first refusal.
 pub fn tested_rows(codes: &[u8], sequence: &[usize]) -> Result<Rows, LoadRefusal> {
     let size = sequence.len();
-    if size > 64 || codes.len() != size * size {
+    if size > MODULES || codes.len() != size * size {
         return Err(LoadRefusal::WrongShape);
     }
     if let Some(k) = codes.iter().position(|&code| code > 2) {
@@ -31,7 +32,7 @@ pub fn tested_rows(codes: &[u8], sequence: &[usize]) -> Result<Rows, LoadRefusal
 
 /// The first two modules, the lower number first, that have no edge or two.
 fn first_not_one(rows: &Rows, size: usize) -> Option<(usize, usize)> {
-    let mut before = [0u64; 64];
+    let mut before = [0u64; MODULES];
     for i in 0..size {
         for j in members(rows.both(i)) {
             before[j] |= 1 << i;
@@ -56,6 +57,7 @@ fn later(i: usize) -> u64 {
     u64::MAX << i << 1
 }
 
+/// The graphs of a table of codes.
 fn rows_of(codes: &[u8], size: usize) -> Rows {
     let mut rows = Rows::new();
     for i in 0..size {
@@ -75,14 +77,15 @@ fn row_of(row: &[u8], code: u8) -> u64 {
 }
 
 /// The modules that i reaches by two edges and by none.
-fn missing_from(graph: &[u64; 64], i: usize) -> u64 {
+fn missing_from(graph: &[u64; MODULES], i: usize) -> u64 {
     members(graph[i]).fold(0, |reached, j| reached | graph[j]) & !graph[i]
 }
 
+/// That a sequence names each module once, and no edge leads back in it.
 fn test_sequence(rows: &Rows, sequence: &[usize]) -> Result<(), LoadRefusal> {
     let size = sequence.len();
     // for each module those that stand before it
-    let mut before = [0u64; 64];
+    let mut before = [0u64; MODULES];
     let mut met = 0u64;
     for (place, &module) in sequence.iter().enumerate() {
         if module >= size || met >> module & 1 == 1 {

@@ -3,15 +3,19 @@
 use super::refusals::PackRefusal;
 use super::Floorplan;
 
+/// The longest side of a module.
 const LONGEST_SIDE: u32 = 100_000;
+/// The farthest that a pin lies across or up.
 const FARTHEST: u32 = 3_600_000;
 
+/// Width and height of a module before it is rotated.
 #[derive(Clone, Copy)]
 pub struct Sides {
     pub width: u32,
     pub height: u32,
 }
 
+/// The borders of a module that is placed.
 #[derive(Clone, Copy, Default)]
 pub struct Placed {
     pub left: u32,
@@ -20,12 +24,14 @@ pub struct Placed {
     pub top: u32,
 }
 
+/// The least rectangle around all modules, from the origin.
 pub struct Chip {
     pub width: u32,
     pub height: u32,
     pub area: u64,
 }
 
+/// Where one module has to stand: its left border and its bottom.
 #[derive(Clone, Copy)]
 pub struct Pin {
     pub module: usize,
@@ -34,6 +40,7 @@ pub struct Pin {
 }
 
 impl Sides {
+    /// The sides as they lie, changed for each other where the module is rotated.
     pub fn turned(self, is_rotated: bool) -> Sides {
         if is_rotated {
             Sides {
@@ -62,6 +69,7 @@ impl Placed {
     }
 }
 
+/// The chip of the modules that are placed.
 fn chip_around(results: &[Placed]) -> Chip {
     let width = results.iter().map(|placed| placed.right).max().unwrap_or(0);
     let height = results.iter().map(|placed| placed.top).max().unwrap_or(0);
@@ -72,6 +80,7 @@ fn chip_around(results: &[Placed]) -> Chip {
     }
 }
 
+/// What is wrong with the sides and the room for records, before all else.
 fn check(size: usize, sides: &[Sides], results: &[Placed]) -> Result<(), PackRefusal> {
     if sides.len() != size {
         return Err(PackRefusal::WrongSides);
@@ -89,6 +98,7 @@ fn check(size: usize, sides: &[Sides], results: &[Placed]) -> Result<(), PackRef
     }
 }
 
+/// Packs to the left and down; results beyond the modules stay as they are.
 pub fn pack<F: Floorplan>(
     plan: &F,
     rotated: u64,
@@ -101,6 +111,7 @@ pub fn pack<F: Floorplan>(
     Ok(chip_around(&results[..size]))
 }
 
+/// The same with one module at its pin; where it is pushed past that, the records are those without a pin.
 pub fn pack_pinned<F: Floorplan>(
     plan: &F,
     rotated: u64,
@@ -123,6 +134,7 @@ pub fn pack_pinned<F: Floorplan>(
     Ok(chip_around(&results[..size]))
 }
 
+/// The same as if one module were rotated the other way.
 pub fn pack_with_rotation<F: Floorplan>(
     plan: &F,
     rotated: u64,

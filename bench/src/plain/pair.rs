@@ -4,21 +4,23 @@ use super::loading::tested_rows;
 use super::pack::{Pin, Placed, Sides};
 use super::refusals::{ChangeRefusal, LoadRefusal};
 use super::rows::{members, two_modules, Rows};
-use super::Floorplan;
+use super::{Floorplan, MODULES};
 
 /// Modules in their order, with the place of each.
 #[derive(Clone, Copy)]
 struct Order {
-    modules: [u8; 64],
-    places: [u8; 64],
+    modules: [u8; MODULES],
+    places: [u8; MODULES],
 }
 
 impl Order {
+    /// Gives a place to a module.
     fn put(&mut self, place: usize, module: usize) {
         self.modules[place] = module as u8;
         self.places[module] = place as u8;
     }
 
+    /// Lets two modules change places.
     fn swap(&mut self, a: usize, b: usize) {
         let (at, other) = (self.places[a].into(), self.places[b].into());
         self.put(at, b);
@@ -26,6 +28,7 @@ impl Order {
     }
 }
 
+/// The packing sequence and the other order.
 #[derive(Clone, Copy)]
 pub struct Pair {
     size: usize,
@@ -37,7 +40,7 @@ impl Pair {
     /// The graphs: i is left of what stands after it in both orders, and below what stands after it in the packing
     /// sequence alone.
     fn rows(&self) -> Rows {
-        let mut after_other = [0u64; 64];
+        let mut after_other = [0u64; MODULES];
         let mut met = 0u64;
         for &module in self.other.modules[..self.size].iter().rev() {
             after_other[usize::from(module)] = met;
@@ -57,7 +60,7 @@ impl Pair {
     /// Both orders by counting: before a module stand those with an edge to it, and in the other order those left of it
     /// and those above it.
     fn count(&mut self, rows: &Rows) {
-        let mut left = [0; 64];
+        let mut left = [0; MODULES];
         for &row in &rows.right[..self.size] {
             for j in members(row) {
                 left[j] += 1;
@@ -74,8 +77,8 @@ impl Pair {
 impl Floorplan for Pair {
     fn new() -> Pair {
         let none = Order {
-            modules: [0; 64],
-            places: [0; 64],
+            modules: [0; MODULES],
+            places: [0; MODULES],
         };
         Pair {
             size: 0,
@@ -141,7 +144,7 @@ impl Floorplan for Pair {
         results: &mut [Placed],
     ) -> bool {
         let sequence = &self.packing.modules[..self.size];
-        let mut far = [(0, 0); 64];
+        let mut far = [(0, 0); MODULES];
         let mut fits = true;
         for (place, &module) in sequence.iter().enumerate() {
             let i = usize::from(module);

@@ -4,6 +4,7 @@ use super::pack::{pack, pack_pinned, pack_with_rotation, Chip, Pin, Placed, Side
 use super::refusals::{ChangeRefusal, LoadRefusal, PackRefusal};
 use super::Floorplan;
 
+/// A change by the module or the two modules that it names.
 #[derive(Clone, Copy)]
 pub enum Change {
     Rotate(usize),
@@ -12,18 +13,21 @@ pub enum Change {
     MoveEdge(usize, usize),
 }
 
+/// What a change changes: the floorplan, and a bit for each rotated module.
 #[derive(Clone, Copy)]
 struct Current<F> {
     floorplan: F,
     rotated: u64,
 }
 
+/// A plan, with a copy of what was current before the change on trial.
 pub struct Plan<F> {
     current: Current<F>,
     before: Option<Current<F>>,
 }
 
 impl<F: Floorplan> Plan<F> {
+    /// The plan of no modules.
     pub fn new() -> Plan<F> {
         Plan {
             current: Current {
@@ -34,18 +38,22 @@ impl<F: Floorplan> Plan<F> {
         }
     }
 
+    /// The current floorplan, that of a trial too.
     pub fn floorplan(&self) -> &F {
         &self.current.floorplan
     }
 
+    /// Whether a module is rotated; outside the plan none is.
     pub fn is_rotated(&self, module: usize) -> bool {
         module < self.floorplan().modules() && self.current.rotated >> module & 1 == 1
     }
 
+    /// Whether a change waits for a keep or an undo.
     pub fn is_on_trial(&self) -> bool {
         self.before.is_some()
     }
 
+    /// Takes another floorplan, none of it rotated; a refusal leaves the old one.
     pub fn load(&mut self, codes: &[u8], sequence: &[usize]) -> Result<(), LoadRefusal> {
         if self.is_on_trial() {
             return Err(LoadRefusal::TrialOpen);
@@ -55,6 +63,7 @@ impl<F: Floorplan> Plan<F> {
         Ok(())
     }
 
+    /// Makes a change on trial; a refusal leaves all as it is.
     pub fn change(&mut self, change: Change) -> Result<(), ChangeRefusal> {
         if self.is_on_trial() {
             return Err(ChangeRefusal::TrialOpen);
@@ -90,10 +99,12 @@ impl<F: Floorplan> Plan<F> {
         }
     }
 
+    /// A packing of the current floorplan.
     pub fn pack(&self, sides: &[Sides], results: &mut [Placed]) -> Result<Chip, PackRefusal> {
         pack(self.floorplan(), self.current.rotated, sides, results)
     }
 
+    /// A packing with one module at its pin.
     pub fn pack_pinned(
         &self,
         sides: &[Sides],
@@ -103,6 +114,7 @@ impl<F: Floorplan> Plan<F> {
         pack_pinned(self.floorplan(), self.current.rotated, sides, results, pin)
     }
 
+    /// A packing as if one module were rotated the other way.
     pub fn pack_with_rotation(
         &self,
         sides: &[Sides],

@@ -1,5 +1,6 @@
 //! What is refused, each case with its number and what it tells.
 
+/// Of a load.
 #[derive(Clone, Copy)]
 pub enum LoadRefusal {
     WrongShape,
@@ -12,6 +13,7 @@ pub enum LoadRefusal {
     TrialOpen,
 }
 
+/// Of a change.
 #[derive(Clone, Copy)]
 pub enum ChangeRefusal {
     TrialOpen,
@@ -21,6 +23,7 @@ pub enum ChangeRefusal {
     NoReductionEdge,
 }
 
+/// Of a packing.
 #[derive(Clone, Copy)]
 pub enum PackRefusal {
     WrongSides,
@@ -49,6 +52,7 @@ impl LoadRefusal {
 }
 
 impl ChangeRefusal {
+    /// The number, with zeros for the values.
     pub fn told(self) -> [u64; 3] {
         let number = match self {
             ChangeRefusal::TrialOpen => 20,
@@ -62,6 +66,7 @@ impl ChangeRefusal {
 }
 
 impl PackRefusal {
+    /// The number, and the module that goes with it, zero where there is none.
     pub fn told(self) -> [u64; 3] {
         let (number, module) = match self {
             PackRefusal::WrongSides => (40, 0),

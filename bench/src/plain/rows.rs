@@ -1,12 +1,13 @@
 //! Two closure graphs as rows of bits, and the changes of an edge.
 
 use super::refusals::ChangeRefusal;
+use super::MODULES;
 
 /// The modules right of each module and above each, a bit for each.
 #[derive(Clone, Copy)]
 pub struct Rows {
-    pub right: [u64; 64],
-    pub above: [u64; 64],
+    pub right: [u64; MODULES],
+    pub above: [u64; MODULES],
 }
 
 /// The members of a set, the least first.
@@ -22,6 +23,7 @@ pub fn members(set: u64) -> impl Iterator<Item = usize> {
     })
 }
 
+/// Whether a module is in a set.
 fn has(set: u64, module: usize) -> bool {
     set >> module & 1 == 1
 }
@@ -35,6 +37,7 @@ fn predecessors(graph: &[u64], module: usize) -> u64 {
     set
 }
 
+/// That a and b are two modules of the plan, or why not.
 pub fn two_modules(size: usize, a: usize, b: usize) -> Result<(), ChangeRefusal> {
     if a >= size || b >= size {
         return Err(ChangeRefusal::NoModule);
@@ -45,19 +48,22 @@ pub fn two_modules(size: usize, a: usize, b: usize) -> Result<(), ChangeRefusal>
     Ok(())
 }
 
+/// A set with a and b exchanged.
 fn exchange(set: u64, a: usize, b: usize) -> u64 {
     let differs = (set >> a ^ set >> b) & 1;
     set ^ (differs << a | differs << b)
 }
 
 impl Rows {
+    /// Graphs without edges.
     pub fn new() -> Rows {
         Rows {
-            right: [0; 64],
-            above: [0; 64],
+            right: [0; MODULES],
+            above: [0; MODULES],
         }
     }
 
+    /// 1 for an edge to the right, 2 for one up, 0 for none.
     pub fn code(&self, i: usize, j: usize) -> u8 {
         if has(self.right[i], j) {
             1
@@ -78,6 +84,7 @@ impl Rows {
         self.both(module).count_ones() as usize
     }
 
+    /// Lets two modules change places.
     pub fn swap(&mut self, size: usize, a: usize, b: usize) {
         for graph in [&mut self.right, &mut self.above] {
             graph.swap(a, b);

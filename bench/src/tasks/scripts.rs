@@ -1,7 +1,7 @@
 //! Scripts of calls of a plan.
 
 use super::wrong_loads::wrong_load;
-use crate::plain::{Floorplan, Graphs};
+use crate::plain::{Floorplan, Graphs, MODULES};
 use crate::random::{Given, Random};
 
 /// A script of so many calls at plans of so many modules, told by its number. A model of the floorplan goes along, so that
@@ -23,6 +23,7 @@ pub fn script(number: u64, size: usize, calls: usize) -> Vec<u8> {
     script.bytes
 }
 
+/// A script that is being made.
 struct Script {
     bytes: Vec<u8>,
     random: Random,
@@ -68,10 +69,10 @@ impl Script {
         push_load(&mut self.bytes, given);
     }
 
-    /// A load of a floorplan of 65 modules, which nothing but their number is wrong with.
+    /// A load of a floorplan of one module too many, with which nothing else is wrong.
     fn too_many(&mut self) {
         if self.random.below(20) == 0 {
-            let given = Given::random(&mut self.random, 65);
+            let given = Given::random(&mut self.random, MODULES + 1);
             push_load(&mut self.bytes, &given);
         }
     }
