@@ -6,7 +6,7 @@ use crate::answers::{AnswerWords, PackingTold};
 use crate::bytes::Bytes;
 use crate::calls::{Calls, ScriptCall};
 use crate::cases::{MODULES, no_sides};
-use crate::trial::Tried;
+use crate::trial::PlanInHand;
 use lengths::{Plain, Sides};
 use packing::{Placed, unplaced};
 use planner::Plan;
@@ -62,40 +62,40 @@ fn first_places(results: &mut [Placed<Plain>], places: usize) -> &mut [Placed<Pl
 
 // Makes one call and writes what it answers; the sides of a packing are no call.
 fn perform<R: Representation>(
-    tried: &mut Tried<R>,
+    held: &mut PlanInHand<R>,
     sides: &mut SideList,
     results: &mut [Placed<Plain>],
     call: ScriptCall<'_>,
     answers: &mut AnswerWords<'_>,
 ) {
     match call {
-        ScriptCall::Load(codes, sequence) => perform_load(tried, codes, sequence, answers),
-        ScriptCall::Change(change) => answers.put_answer(tried.change(change)),
-        ScriptCall::Keep => answers.put_answer(tried.keep()),
-        ScriptCall::Undo => answers.put_answer(tried.undo()),
+        ScriptCall::Load(codes, sequence) => perform_load(held, codes, sequence, answers),
+        ScriptCall::Change(change) => answers.put_answer(held.change(change)),
+        ScriptCall::Keep => answers.put_answer(held.keep()),
+        ScriptCall::Undo => answers.put_answer(held.undo()),
         ScriptCall::Sides(told) => *sides = SideList::told(told),
         ScriptCall::Pack(places) => {
             let results = first_places(results, places);
-            let answer = tried.plan.pack(sides.all(), results);
+            let answer = held.plan.pack(sides.all(), results);
             answers.put_packed(answer.map_err(PackingTold::of_pack), results);
         }
         ScriptCall::PackPinned(places, pin) => {
             let results = first_places(results, places);
-            let answer = tried.plan.pack_pinned(sides.all(), results, pin);
+            let answer = held.plan.pack_pinned(sides.all(), results, pin);
             answers.put_packed(answer.map_err(PackingTold::of_pinned), results);
         }
         ScriptCall::PackWithRotation(places, module) => {
             let results = first_places(results, places);
-            let answer = tried.plan.pack_with_rotation(sides.all(), results, module);
+            let answer = held.plan.pack_with_rotation(sides.all(), results, module);
             answers.put_packed(answer.map_err(PackingTold::of_rotation), results);
         }
-        ScriptCall::Show => show(&tried.plan, answers),
+        ScriptCall::Show => show(&held.plan, answers),
     }
 }
 
 // A load of a sequence that is told in bytes.
 fn perform_load<R: Representation>(
-    tried: &mut Tried<R>,
+    held: &mut PlanInHand<R>,
     codes: &[u8],
     told: &[u8],
     answers: &mut AnswerWords<'_>,
@@ -105,7 +105,7 @@ fn perform_load<R: Representation>(
         *place = usize::from(module);
     }
     let size = told.len().min(LONGEST_SEQUENCE);
-    answers.put_load(tried.load(codes, &sequence[..size]));
+    answers.put_load(held.load(codes, &sequence[..size]));
 }
 
 // Asks all questions, of one module and one place more than there can be too.
@@ -127,11 +127,11 @@ pub(crate) fn run_script<R: Representation + Drop>(
     script: &[u8],
     answers: &mut AnswerWords<'_>,
 ) {
-    let mut tried = Tried::new(representation);
+    let mut held = PlanInHand::new(representation);
     let mut sides = SideList::empty();
     let mut results = [unplaced(); ROOM];
     for call in Calls(Bytes(script)) {
-        perform(&mut tried, &mut sides, &mut results, call, answers);
+        perform(&mut held, &mut sides, &mut results, call, answers);
     }
-    tried.close();
+    held.close();
 }

@@ -17,16 +17,16 @@ fn ended(answer: Result<(), Undecided>)
 }
 
 // A decision is at hand exactly when a trial is open.
-pub(crate) struct Tried<R: Representation> {
+pub(crate) struct PlanInHand<R: Representation> {
     pub(crate) plan: Plan<R>,
     hand: Option<Decision>,
     ghost at_hand: { is_some hand ≡ is_some (state_of plan).noted },
 }
 
-impl<R: Representation> Tried<R> {
+impl<R: Representation> PlanInHand<R> {
     // A fresh plan over a representation, with no trial open.
-    pub(crate) fn new(representation: R) -> Tried<R> {
-        Tried {
+    pub(crate) fn new(representation: R) -> PlanInHand<R> {
+        PlanInHand {
             plan: Plan::new(representation),
             hand: None,
         }
@@ -61,10 +61,10 @@ impl<R: Representation> Tried<R> {
     }
 }
 
-impl<R: Representation + Drop> Tried<R> {
+impl<R: Representation + Drop> PlanInHand<R> {
     // Lets the plan go, and undoes a trial that is still open.
     pub(crate) fn close(self) {
-        let Tried { mut plan, hand } = self;
+        let PlanInHand { mut plan, hand } = self;
         if let Some(last) = hand {
             ended(plan.undo(last));
         }
