@@ -24,7 +24,7 @@ use Rattle.closure_graphs.proofs.RowSteps.{steps_bypass}
 use Rattle.table_tests.proofs.Passed.{shown_table}
 use Rattle.table_tests.specs.declared.build.TwoGraphs.{TwoGraphs}
 use Rattle.closure_graphs.specs.Settled.{draws_changed, plan_feasible, plan_table}
-use Rattle.closure_graphs.specs.Meaning.{graphs_mean, EdgeFound, Draws, Refitted}
+use Rattle.closure_graphs.specs.Meaning.{graphs_mean, EdgeTaken, Draws, Refitted}
 use Rattle.closure_graphs.specs.Shown.{Shown, facing}
 use Rattle.closure_graphs.specs.Sound.{table_drawn}
 use Rattle.closure_graphs.specs.declared.closure_graphs.ClosureGraphs.{ClosureGraphs}
@@ -130,7 +130,7 @@ module _ (x : ClosureGraphs) where
           (subst (λ t. Shown (move_table t a b) new) table now-shown)
 
     -- the two graphs of an edge that was found and changed
-    module _ (e e' : Edge) (found : EdgeFound x a b (Ok e)) (along : e'.direction ≡ e.direction) (new : TwoGraphs)
+    module _ (e e' : Edge) (found : EdgeTaken x a b e) (along : e'.direction ≡ e.direction) (new : TwoGraphs)
         (is : new ≡ facing e'.direction e'.own e'.other) where
       faced : new ≡ facing e.direction e'.own e'.other
       faced = is ∙ ap (λ d. facing d e'.own e'.other) along

@@ -1,5 +1,5 @@
 -- A change of an edge's own graph and of the other is the change of the table, in either direction.
-use Rattle.std.proofs.Common.{◌≡◌, ℕ, ◌<◌, ◌≢◌, sym, subst, arith}
+use Rattle.std.proofs.Common.{◌≡◌, ℕ, ◌<◌, ◌≢◌, sym, refl, subst, arith}
 use Rattle.graphs.specs.Edges.{edge}
 use Rattle.graphs.specs.declared.graph.Graph.{Graph}
 use Rattle.plans.specs.Changes.{reverse_table, move_table, other_graph}
@@ -8,9 +8,10 @@ use Rattle.plans.specs.Tables.{Table}
 use Rattle.plans.specs.declared.direction.Direction.{Direction}
 use Rattle.plans.specs.declared.direction.Direction.TheVariants.{Right, Above}
 use Rattle.table_tests.specs.Tested.{Shows}
+use Rattle.table_tests.specs.declared.build.TwoGraphs.{TwoGraphs}
 use Rattle.closure_graphs.proofs.RowTables.{reverse_shown, move_shown}
 use Rattle.closure_graphs.specs.RowChanges.{reversed_own, reversed_other, moved_own, moved_other}
-use Rattle.closure_graphs.specs.Shown.{Shown, facing}
+use Rattle.closure_graphs.specs.Shown.{Shown, facing, graph_along}
 
 -- the codes of the two directions
 pub record Codes (d : Direction) : Type 0 where
@@ -21,6 +22,11 @@ pub record Codes (d : Direction) : Type 0 where
 pub codes : (d : Direction) → Codes d
 codes Right = record { some = omega arith; other = omega arith; turn = omega arith }
 codes Above = record { some = omega arith; other = omega arith; turn = omega arith }
+
+-- two graphs are that of a direction and that of the other
+pub facing_along : (d : Direction) (two : TwoGraphs) → facing d (graph_along d two) (graph_along (turned d) two) ≡ two
+facing_along Right two = refl
+facing_along Above two = refl
 
 -- what two graphs show, by the direction that one of them has
 pub shown_own : (c : Table) (d : Direction) (g h : Graph) → Shown c (facing d g h) → Shows c (code_along d) g

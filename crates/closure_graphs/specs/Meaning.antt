@@ -1,5 +1,5 @@
 -- What the representation by two closure graphs means, and what is told of its edges and of its graphs after a change.
-use Rattle.std.specs.Prelude.{◌≡◌, ℕ, true, List, Some, None, Ok, Err, Result}
+use Rattle.std.specs.Prelude.{◌≡◌, ◌<◌, ℕ, true, List, Some, None, Ok, Err, Result}
 use Rattle.closure_graphs.specs.Sound.{table_drawn, graphs_plan}
 use Rattle.closure_graphs.specs.Shown.{Shown, facing}
 use Rattle.closure_graphs.specs.declared.closure_graphs.ClosureGraphs.{ClosureGraphs}
@@ -10,6 +10,7 @@ use Rattle.plans.specs.Tables.{Floorplan, FeasibleTable, table_in}
 use Rattle.plans.specs.Sequences.{fitting}
 use Rattle.plans.specs.Tests.{loadable}
 use Rattle.plans.specs.declared.change.Change.{Change}
+use Rattle.plans.specs.declared.direction.Direction.{Direction}
 use Rattle.plans.specs.declared.refusals.ChangeRefusal.{ChangeRefusal}
 use Rattle.plans.specs.declared.refusals.LoadRefusal.{LoadRefusal}
 use Rattle.table_tests.specs.declared.build.TwoGraphs.{TwoGraphs}
@@ -23,15 +24,23 @@ abbrev pub GraphsLoaded : List ℕ → List ℕ → Result ClosureGraphs LoadRef
 GraphsLoaded codes s (Ok x) = after_load codes s ≡ Ok (graphs_mean x)
 GraphsLoaded codes s (Err e) = after_load codes s ≡ Err e
 
--- the first refusal of a change of (a, b), or the edge from a to b, a reduction edge, with its two graphs
-abbrev pub EdgeFound : ClosureGraphs → ℕ → ℕ → Result Edge ChangeRefusal → Type 0
-EdgeFound x a b (Ok e) =
+-- the first refusal of a change of (a, b), or the direction of the edge from a to b, a reduction edge between two modules
+abbrev pub EdgeFound : ClosureGraphs → ℕ → ℕ → Result Direction ChangeRefusal → Type 0
+EdgeFound x a b (Ok d) =
+    (edge_refusal x.size (table_in (graphs_mean x)) a b ≡ None)
+    × (table_in (graphs_mean x) a b ≡ code_along d)
+    × (a < 64)
+    × (b < 64)
+EdgeFound x a b (Err e) = edge_refusal x.size (table_in (graphs_mean x)) a b ≡ Some e
+
+-- that edge with its two graphs
+abbrev pub EdgeTaken : ClosureGraphs → ℕ → ℕ → Edge → Type 0
+EdgeTaken x a b e =
     (edge_refusal x.size (table_in (graphs_mean x)) a b ≡ None)
     × (table_in (graphs_mean x) a b ≡ code_along e.direction)
     × (e.from ≡ a)
     × (e.to ≡ b)
     × (facing e.direction e.own e.other ≡ x.graphs)
-EdgeFound x a b (Err e) = edge_refusal x.size (table_in (graphs_mean x)) a b ≡ Some e
 
 -- a floorplan with the codes of two graphs
 abbrev pub with_graphs : Floorplan → TwoGraphs → Floorplan

@@ -14,3 +14,8 @@ Shown c two = Shows c 1 two.right × Shows c 2 two.above
 abbrev pub facing : Direction → Graph → Graph → TwoGraphs
 facing Right own other = record { right = own; above = other }
 facing Above own other = record { right = other; above = own }
+
+-- the graph of a direction
+abbrev pub graph_along : Direction → TwoGraphs → Graph
+graph_along Right two = two.right
+graph_along Above two = two.above
