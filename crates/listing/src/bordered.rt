@@ -1,13 +1,12 @@
 // Sides with one border, in counted lengths.
-ghost use Rattle.std.specs.Prelude.{◌≡◌, map, All, IfOk};
+ghost use Rattle.std.specs.Prelude.{◌≡◌, ◌≤◌, All, length, map, take};
 ghost use Rattle.lengths.specs.CountedLengths.{count_of};
 ghost use Rattle.listing.specs.Bordered.{PossibleSide, PossibleSides, bordered_sides, in_counts};
 ghost use Rattle.listing.specs.Whole.{bordered};
 ghost use Rattle.plans.specs.CarriedPackings.{carry_sides};
 
-use lengths::{Counted, Plain};
+use lengths::{Counted, Length, Plain};
 use plans::Sides;
-use std::alloc::{AllocError, Global};
 
 // A side with one border. That the side is possible is asked from here up: only the range of what a reading leaves in
 // the caller's list says so, and that list's type is the caller's.
@@ -29,17 +28,20 @@ fn with_both_borders(sides: &Sides<Plain>) -> Sides<Counted>
     }
 }
 
-// The sides of the modules of a list, each with one border.
-pub(crate) fn with_borders(
-    heap: Global,
-    sides: &[Sides<Plain>],
-) -> Result<Vec<Sides<Counted>>, AllocError>
-    requires { All PossibleSides sides.now }
-    ensures { IfOk result (λ counted. in_counts counted.items ≡ map bordered_sides sides.now) }
+// The sides of the modules of a list, each with one border, in room for as many modules as a plan can have: a listing
+// asks for memory for nothing but its bytes.
+pub(crate) fn with_borders(sides: &[Sides<Plain>]) -> [Sides<Counted>; 64]
+    requires few { length sides.now ≤ 64 }
+    requires possible { All PossibleSides sides.now }
+    ensures { in_counts (take (length sides.now) result) ≡ map bordered_sides sides.now }
 {
-    let mut counted = Vec::with_capacity(heap, sides.len())?;
-    for own in sides {
-        counted.push(with_both_borders(own))?;
+    let nothing = Sides {
+        width: Counted::ZERO,
+        height: Counted::ZERO,
+    };
+    let mut counted = [nothing; 64];
+    for (i, own) in sides.iter().enumerate() {
+        counted[i] = with_both_borders(own);
     }
-    Ok(counted)
+    counted
 }

@@ -1,5 +1,5 @@
 // The whole listing of a task.
-ghost use Rattle.std.specs.Prelude.{◌≡◌, All, map, length, IfOk, Some};
+ghost use Rattle.std.specs.Prelude.{◌≡◌, ◌≤◌, All, map, length, IfOk, Some};
 ghost use Rattle.closure_graphs.specs.Meaning.{graphs_mean};
 ghost use Rattle.listing.specs.Bordered.{PossibleSides, bordered_sides};
 ghost use Rattle.listing.specs.Line.{Appends};
@@ -25,13 +25,15 @@ fn append_loaded(
     plan: &[u8],
     parsed: Parsed,
 ) -> Result<(), AllocError>
-    requires { All PossibleSides sides.now }
+    requires few { length sides.now ≤ 64 }
+    requires possible { All PossibleSides sides.now }
     ensures { Appends out.old.items out.new.items (lines_from plan.now (map bordered_sides sides.now) (length plan.now) parsed.script (start_of (Some parsed.head) (graphs_mean graphs))) result }
 {
-    let counted = with_borders(*out.allocator(), sides)?;
+    let counted = with_borders(sides);
+    let own = &counted[..sides.len()];
     match parsed.head {
-        Head::Plan => append_script(out, graphs, &counted, plan, parsed.script),
-        Head::Side => append_script(out, Transposed(graphs), &counted, plan, parsed.script),
+        Head::Plan => append_script(out, graphs, own, plan, parsed.script),
+        Head::Side => append_script(out, Transposed(graphs), own, plan, parsed.script),
     }
 }
 

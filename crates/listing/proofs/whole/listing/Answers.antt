@@ -23,7 +23,11 @@ pub append_loaded-requires : goal.append_loaded-requires
 append_loaded-requires c =
     let did = c.in-Ok.ensures in
     let few : c.in-Ok.parsed.modules ≤ 64 = few_parsed c.args.sizes c.args.plan c.in-Ok.parsed did.answer _ _ did.lists in
-    possible_parsed c.args.sizes c.args.plan c.in-Ok.parsed did.answer _ _ did.lists (omega arith)
+    let room : c.in-Ok.parsed.modules ≤ length c.read.new.sides = omega arith in
+    record {
+      few = omega (arith, length-take-le c.in-Ok.parsed.modules c.read.new.sides room);
+      possible = possible_parsed c.args.sizes c.args.plan c.in-Ok.parsed did.answer _ _ did.lists room;
+    }
 
 pub returns : goal.returns
 returns c =
