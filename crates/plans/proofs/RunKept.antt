@@ -10,7 +10,7 @@ use Rattle.plans.specs.Calls.{Packing, pack, pack_pinned, pack_with_rotation, Pa
 use Rattle.plans.specs.Kinds.{Kind, Lawful}
 use Rattle.plans.specs.Model.{State, made_of, task_at}
 use Rattle.plans.specs.ModelRuns.{model_packing, after_call, after_calls, model_answer, model_told}
-use Rattle.plans.specs.RunKept.{PackingKept, RunKept, ModelKeeps}
+use Rattle.plans.specs.RunKept.{PackingKept, RunKept, ModelKeeps, RunsAccounted}
 use Rattle.plans.specs.Tables.{Floorplan, Feasible}
 
 -- what a packing answers and writes at a feasible state
@@ -87,3 +87,10 @@ module _ {I : Type 0} {L : I → Type 0} (K : (kind : I) → Kind (L kind)) wher
       let back = told_calls s cs in
       subst (λ (ds : List (Call L)). RunKept K made (model_told K s cs) (after_calls s ds)) back
       (told_kept laws made f (model_told K s cs) (from_model s cs) (ap (model_told K s) (sym back)))
+
+  -- and it accounts for its state, whatever it was made over and whatever the kinds are
+  pub runs_accounted : RunsAccounted K
+  runs_accounted made cs =
+      let s = made_of made in
+      let ts = model_told K s cs in
+      sym (ap (after_calls s) (told_calls s cs)) ∙ calls_account s K new_account s ts (from_model s cs) refl

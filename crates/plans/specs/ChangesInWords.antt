@@ -83,3 +83,7 @@ ChangeWords p q (MoveEdge a b) = MoveWords p q a b
 abbrev pub ChangesAsTold : Type 0
 ChangesAsTold =
     (p : Floorplan) → Feasible p → (c : Change) → change_refusal p c ≡ None → ChangeWords p (changed p c) c
+
+-- and a rotation leaves every floorplan, also where it is refused
+abbrev pub RotationsLeave : Type 0
+RotationsLeave = (p : Floorplan) (a : ℕ) → changed p (Rotate a) ≡ p

@@ -47,3 +47,9 @@ module _ {I : Type 0} {L : I → Type 0} (K : (kind : I) → Kind (L kind)) wher
   ModelKeeps =
       ((kind : I) → Lawful (K kind)) → (made : Floorplan) → Feasible made → (calls : List (Call L))
       → RunKept made (model_told K (made_of made) calls) (after_calls (made_of made) calls)
+
+  -- the state that calls lead to is what their account gives, from every floorplan and in every kind, lawful or not
+  abbrev pub RunsAccounted : Type 0
+  RunsAccounted =
+      (made : Floorplan) (calls : List (Call L))
+      → after_calls (made_of made) calls ≡ accounted made (model_told K (made_of made) calls)

@@ -1,6 +1,6 @@
 // The theorems about the two graphs of a feasible floorplan, their sequence and their changes.
 ghost use Rattle.plans.specs.ChangesFeasible.{ChangesFeasible};
-ghost use Rattle.plans.specs.ChangesInWords.{ChangesAsTold};
+ghost use Rattle.plans.specs.ChangesInWords.{ChangesAsTold, RotationsLeave};
 ghost use Rattle.plans.specs.OneSequence.{SequenceDetermined};
 ghost use Rattle.plans.specs.Orders.{CountingOrders};
 ghost use Rattle.plans.specs.ReductionEdges.{ReductionEdges};
@@ -17,6 +17,7 @@ pub fn one_sequence()
 pub fn changes_of_graphs()
     ensures feasible { ChangesFeasible }
     ensures told { ChangesAsTold }
+    ensures rotations { RotationsLeave }
     ensures reduction { ReductionEdges }
     ensures repair { RepairFits }
 {}

@@ -4,7 +4,7 @@ ghost use Rattle.plans.specs.LoadLaw.{LoadLaw};
 ghost use Rattle.plans.specs.ModelLaw.{RunsFeasible, RunsRotate};
 ghost use Rattle.plans.specs.PairLaw.{PairLaw};
 ghost use Rattle.plans.specs.PlanRefusals.{PlanRefusals};
-ghost use Rattle.plans.specs.RunKept.{ModelKeeps};
+ghost use Rattle.plans.specs.RunKept.{ModelKeeps, RunsAccounted};
 ghost use Rattle.plans.specs.RefusalLaws.{ChangeLaw, PackLaw};
 ghost use Rattle.plans.specs.TransposeLaw.{TransposeLaw};
 
@@ -24,11 +24,12 @@ pub fn transpose_law()
 
 /// From a feasible floorplan every run of calls of the model leads to feasible states that rotate modules alone, and
 /// keeps the law of runs: floorplans as published, least packings, and a plan that the answers account for. Its loads
-/// and changes do what the words say.
+/// and changes do what the words say. The answers account for the plan from every other floorplan too.
 pub fn model_law<F: Family>()
     ensures feasible { RunsFeasible F.Family.length_of }
     ensures rotations { RunsRotate F.Family.length_of }
     ensures words { StepsInWords }
+    ensures accounts { RunsAccounted F.Family.kind_of }
     ensures kept { ModelKeeps F.Family.kind_of }
 {}
 
